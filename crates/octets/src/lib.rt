@@ -1,0 +1,36 @@
+// Numbers in octets, and writing octets at a place of a lent room.
+//   wide      an octet as a usize
+//   number    a 16-bit number from its two octets, high octet first
+//   put       octets at a place of a room
+// `put` asks for room; nothing else has a `requires`. Assumes nothing.
+ghost use mathlib.Core.Path.{_≡_};
+ghost use Prim.Native.Nat.{_+_, _≤_};
+ghost use lib.ListN.{length};
+ghost use Rattle.octets.specs.Octets.{number, Wrote};
+
+// An octet as a usize.
+pub fn wide(octet: u8) -> usize
+    ensures { λ r. ⌜ r ≡ octet ⌝ }
+{
+    octet as usize
+}
+
+// A 16-bit number from its two octets.
+pub fn number(high: u8, low: u8) -> u16
+    ensures { λ r. ⌜ r ≡ number high low ⌝ }
+{
+    (high as u16) * 256 + (low as u16)
+}
+
+// Writes all of `octets` at place `at` of the room, and answers the place behind them.
+pub fn put(room: &mut [u8], at: usize, octets: &[u8]) -> usize
+    requires { ⌜ at + length (now octets) ≤ length (now room) ⌝ }
+    ensures { λ r. ⌜ Wrote (now (room .entry)) at (now (octets .entry)) (now (room .exit)) r ⌝ }
+{
+    let mut i: usize = 0;
+    while i < octets.len() {
+        room[at + i] = octets[i];
+        i += 1;
+    }
+    at + i
+}
