@@ -2,6 +2,7 @@
 --   high, low, number      a 16-bit number in two octets, high octet first
 --   part                   the octets of a message from one place up to another
 --   front                  a room after a reply was written to its front
+--   Fills                  what the writer of a whole reply did
 --   Wrote                  what a writer at a place did, as one statement that chains
 -- Assumes nothing.
 use Prim.Native.Nat.{ℕ, _+_, _*_, _-_, _/_, _%_}
@@ -27,6 +28,10 @@ part m a e = take (e - a) (drop a m)
 -- "A reply fills the front of the room; octets after it are unchanged. With no reply the room is unchanged."
 abbrev pub front : List ℕ → List ℕ → List ℕ
 front reply room = reply ++ drop (length reply) room
+
+-- a writer filled the front of `old` with a reply, which left `new`, and answered the reply's length
+abbrev pub Fills : List ℕ → List ℕ → List ℕ → ℕ → Type 0
+Fills old reply new size = (size ≡ length reply) × (new ≡ front reply old)
 
 -- a writer put `octets` at place `at` of `old`, which left `new`, and answered the place behind them
 pub record Wrote (old : List ℕ) (at : ℕ) (octets new : List ℕ) (next : ℕ) : Type 0 where

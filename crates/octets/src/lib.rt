@@ -25,7 +25,8 @@ pub fn number(high: u8, low: u8) -> u16
 // Writes all of `octets` at place `at` of the room, and answers the place behind them.
 pub fn put(room: &mut [u8], at: usize, octets: &[u8]) -> usize
     requires { ⌜ at + length (now octets) ≤ length (now room) ⌝ }
-    ensures { λ r. ⌜ Wrote (now (room .entry)) at (now (octets .entry)) (now (room .exit)) r ⌝ }
+    ensures next { λ r. ⌜ r ≡ at + length (now (octets .entry)) ⌝ }
+    ensures stored { λ r. ⌜ Wrote (now (room .entry)) at (now (octets .entry)) (now (room .exit)) r ⌝ }
 {
     let mut i: usize = 0;
     while i < octets.len() {

@@ -52,7 +52,7 @@ returns : tie.Need-returns Inv-loop μ-loop
 returns c =
     let o = c .before .before .args .octets .now in
     let all : c .before .loop .i ≡ length o = omega arith in
-    record { run = c .before .loop .inv .1 ∙ rw (all, take-length o); past = omega arith }
+    (omega arith, record { run = c .before .loop .inv .1 ∙ rw (all, take-length o); past = omega arith })
 
 pub put-spec : {M : Type 1} → statement M
 put-spec =

@@ -1,0 +1,57 @@
+-- `replies::write_status` meets its contract: a header, whose length field counts the diagnostic, and two elements.
+-- Assumes nothing.
+use borrow.Author.Needs.{needs}
+use native.Mathlib.Omega.{arith}
+use mathlib.Core.List.{[], _∷_}
+use Prim.Native.Nat.{_+_}
+use mathlib.Core.Path.{_≡_}
+use lib.ListN.{length}
+use Rattle.octets.proofs.Stores.{chain}
+use Rattle.replies.proofs.Whole.{body-size, no-more, whole}
+use Rattle.replies.specs.Message.{body}
+use Rattle.replies.specs.Reply.{callState, cause}
+use Rattle.replies.proofs.write_status.Statement.{statement}
+use Rattle.replies.proofs.write_status.Tie as tie
+
+diagnostic-size-requires : tie.Need-diagnostic-size-requires
+diagnostic-size-requires c κs = search needs
+
+add-size : tie.Need-add-size
+add-size c = search needs
+
+put-header-requires : tie.Need-put-header-requires
+put-header-requires c κs = search needs
+
+put-call-state-requires : tie.Need-put-call-state-requires
+put-call-state-requires c κs = search needs
+
+put-cause-requires : tie.Need-put-cause-requires
+put-cause-requires c κs = search needs
+
+same-length : tie.Need-same-length
+same-length c = search needs
+
+returns : tie.Need-returns
+returns c = let e = c .before .before in
+    let s = e .before .before .before .before in
+    let h = s .before .before .before .before in
+    let d = h .before .before in
+    let a = d .before .before .args in
+    let es = callState (a .state) ∷ cause (a .why) ∷ [] in
+    let size : length (body es) ≡ 11 + d .diagnostic-size .result =
+    rw (body-size (callState (a .state)) (cause (a .why) ∷ []), body-size (cause (a .why)) []) (omega arith)
+    in
+    whole (a .flag) (a .reference) 0x7D (11 + d .diagnostic-size .result) es size (omega arith)
+    (chain (h .put-header .ensures) (chain (s .put-call-state .ensures) (chain (e .put-cause .ensures) (no-more _ _))))
+
+pub write-status-spec : {M : Type 1} → statement M
+write-status-spec =
+    tie.close
+    (tie.spec
+    diagnostic-size-requires
+    add-size
+    put-header-requires
+    put-call-state-requires
+    put-cause-requires
+    same-length
+    returns)

@@ -1,0 +1,299 @@
+// Every message that we send, written at the front of a lent room.
+//   Mandatory, Diagnostic, Cause, Reply     what a message says, as a value
+//   write                                   a reply: answers its length, 0 where there is none
+//   write_setup                             SETUP with a Connection identifier and an offer's body
+// Both ask for a room of 1,024 octets; octets behind the message are unchanged. Assumes nothing.
+ghost use mathlib.Core.Path.{_≡_};
+ghost use mathlib.Core.Bool.{false, cond};
+ghost use Prim.Native.Nat.{_+_, _≤_};
+ghost use mathlib.Core.List.{_++_, _∷_, []};
+ghost use lib.ListN.{length};
+ghost use Rattle.octets.specs.Octets.{Wrote, Fills, front};
+ghost use Rattle.replies.specs.Message.{header, elementOctets, message, octets};
+ghost use Rattle.replies.specs.Reply.{optional, identifiers, diagnosticOctets, cause, callState, connection, restart, replyOctets, setupOctets};
+
+// Some of the four elements that SETUP must have: 59, 5C, 5E and 70.
+pub struct Mandatory {
+    pub traffic: bool,
+    pub qos: bool,
+    pub bearer: bool,
+    pub called: bool,
+}
+
+// What a cause's diagnostic field says.
+pub enum Diagnostic {
+    None,
+    // A message type, or the identifier of an element.
+    Octet(u8),
+    Elements(Mandatory),
+    // VPCI and VCI.
+    Pair(u16, u16),
+    // The digits "310".
+    Timer,
+}
+
+// A cause number below 128, with its diagnostic.
+pub struct Cause {
+    pub number: u8,
+    pub diagnostic: Diagnostic,
+}
+
+pub enum Reply {
+    None,
+    // VPCI and VCI.
+    CallProceeding(u16, u16),
+    Connect,
+    ConnectAcknowledge,
+    Release(Cause),
+    ReleaseComplete,
+    ReleaseCompleteWith(Cause),
+    // The call state, and why.
+    Status(u8, Cause),
+    RestartAcknowledgeAll,
+    // VPCI and VCI.
+    RestartAcknowledge(u16, u16),
+}
+
+// One octet, if it is there.
+fn put_optional(room: &mut [u8], at: usize, there: bool, octet: u8) -> usize
+    requires { ⌜ at + 1 ≤ length (now room) ⌝ }
+    ensures { λ r. ⌜ Wrote (now (room .entry)) at (optional there octet) (now (room .exit)) r ⌝ }
+    ensures { λ r. ⌜ r ≤ at + 1 ⌝ }
+{
+    let one = [octet];
+    if there {
+        return octets::put(room, at, &one);
+    }
+    octets::put(room, at, &one[..0])
+}
+
+// The identifiers of the elements that are named, ascending.
+fn put_identifiers(room: &mut [u8], at: usize, named: Mandatory) -> usize
+    requires { ⌜ at + 4 ≤ length (now room) ⌝ }
+    ensures { λ r. ⌜ Wrote (now (room .entry)) at (identifiers named) (now (room .exit)) r ⌝ }
+{
+    let second = put_optional(room, at, named.traffic, 0x59);
+    let third = put_optional(room, second, named.qos, 0x5C);
+    let fourth = put_optional(room, third, named.bearer, 0x5E);
+    put_optional(room, fourth, named.called, 0x70)
+}
+
+fn put_diagnostic(room: &mut [u8], at: usize, diagnostic: Diagnostic) -> usize
+    requires { ⌜ at + 4 ≤ length (now room) ⌝ }
+    ensures { λ r. ⌜ Wrote (now (room .entry)) at (diagnosticOctets diagnostic) (now (room .exit)) r ⌝ }
+{
+    match diagnostic {
+        Diagnostic::None => octets::put(room, at, &[]),
+        Diagnostic::Octet(octet) => octets::put(room, at, &[octet]),
+        Diagnostic::Elements(named) => put_identifiers(room, at, named),
+        Diagnostic::Pair(vpci, vci) => octets::put(
+            room,
+            at,
+            &[
+                (vpci / 256 % 256) as u8,
+                (vpci % 256) as u8,
+                (vci / 256 % 256) as u8,
+                (vci % 256) as u8,
+            ],
+        ),
+        Diagnostic::Timer => octets::put(room, at, &[0x33, 0x31, 0x30]),
+    }
+}
+
+// How many octets a diagnostic has.
+fn diagnostic_size(diagnostic: Diagnostic) -> usize
+    ensures { λ r. ⌜ r ≡ length (diagnosticOctets diagnostic) ⌝ }
+    ensures { λ r. ⌜ r ≤ 4 ⌝ }
+{
+    match diagnostic {
+        Diagnostic::None => 0,
+        Diagnostic::Octet(_) => 1,
+        Diagnostic::Elements(named) => count(named),
+        Diagnostic::Pair(_, _) => 4,
+        Diagnostic::Timer => 3,
+    }
+}
+
+// How many elements are named.
+fn count(named: Mandatory) -> usize
+    ensures { λ r. ⌜ r ≡ length (identifiers named) ⌝ }
+    ensures { λ r. ⌜ r ≤ 4 ⌝ }
+{
+    one(named.traffic) + one(named.qos) + one(named.bearer) + one(named.called)
+}
+
+fn one(there: bool) -> usize
+    ensures { λ r. ⌜ r ≡ length (optional there 0) ⌝ }
+    ensures { λ r. ⌜ r ≤ 1 ⌝ }
+{
+    if there { 1 } else { 0 }
+}
+
+fn put_header(room: &mut [u8], flag: bool, reference: u32, kind: u8, size: usize) -> usize
+    requires { ⌜ 9 ≤ length (now room) ⌝ }
+    ensures { λ r. ⌜ Wrote (now (room .entry)) 0 (header flag reference kind size) (now (room .exit)) r ⌝ }
+{
+    let top = (reference / 65536 % 128) as u8;
+    let middle = (reference / 256 % 256) as u8;
+    let bottom = (reference % 256) as u8;
+    let high = (size / 256 % 256) as u8;
+    let low = (size % 256) as u8;
+    let first = flag_octet(flag) + top;
+    octets::put(
+        room,
+        0,
+        &[0x09, 0x03, first, middle, bottom, kind, 0x80, high, low],
+    )
+}
+
+fn flag_octet(flag: bool) -> u8
+    ensures { λ r. ⌜ r ≡ cond flag 0x80 0 ⌝ }
+    ensures { λ r. ⌜ r ≤ 128 ⌝ }
+{
+    if flag { 0x80 } else { 0 }
+}
+
+fn put_cause(room: &mut [u8], at: usize, why: Cause) -> usize
+    requires { ⌜ at + 10 ≤ length (now room) ⌝ }
+    ensures { λ r. ⌜ Wrote (now (room .entry)) at (elementOctets (cause why)) (now (room .exit)) r ⌝ }
+{
+    let diagnostic = why.diagnostic;
+    let size = 2 + diagnostic_size(diagnostic);
+    let high = (size / 256 % 256) as u8;
+    let low = (size % 256) as u8;
+    let number = why.number % 128 + 0x80;
+    let next = octets::put(room, at, &[0x08, 0x80, high, low, 0x81, number]);
+    put_diagnostic(room, next, diagnostic)
+}
+
+fn put_call_state(room: &mut [u8], at: usize, state: u8) -> usize
+    requires { ⌜ at + 5 ≤ length (now room) ⌝ }
+    ensures { λ r. ⌜ Wrote (now (room .entry)) at (elementOctets (callState state)) (now (room .exit)) r ⌝ }
+{
+    octets::put(room, at, &[0x14, 0x80, 0, 1, state])
+}
+
+fn put_connection(room: &mut [u8], at: usize, vpci: u16, vci: u16) -> usize
+    requires { ⌜ at + 9 ≤ length (now room) ⌝ }
+    ensures { λ r. ⌜ Wrote (now (room .entry)) at (elementOctets (connection vpci vci)) (now (room .exit)) r ⌝ }
+{
+    let p = (vpci / 256 % 256) as u8;
+    let q = (vpci % 256) as u8;
+    let v = (vci / 256 % 256) as u8;
+    let w = (vci % 256) as u8;
+    octets::put(room, at, &[0x5A, 0x80, 0, 5, 0x88, p, q, v, w])
+}
+
+fn put_restart(room: &mut [u8], at: usize, class: u8) -> usize
+    requires { ⌜ at + 5 ≤ length (now room) ⌝ }
+    ensures { λ r. ⌜ Wrote (now (room .entry)) at (elementOctets (restart class)) (now (room .exit)) r ⌝ }
+{
+    octets::put(room, at, &[0x79, 0x80, 0, 1, class])
+}
+
+// A message with no element.
+fn write_bare(room: &mut [u8], flag: bool, reference: u32, kind: u8) -> usize
+    requires { ⌜ 1024 ≤ length (now room) ⌝ }
+    ensures { λ r. ⌜ Fills (now (room .entry)) (octets (message flag reference kind [])) (now (room .exit)) r ⌝ }
+{
+    put_header(room, flag, reference, kind, 0)
+}
+
+// A message with a Connection identifier.
+fn write_connection(
+    room: &mut [u8],
+    flag: bool,
+    reference: u32,
+    kind: u8,
+    vpci: u16,
+    vci: u16,
+) -> usize
+    requires { ⌜ 1024 ≤ length (now room) ⌝ }
+    ensures { λ r. ⌜ Fills (now (room .entry)) (octets (message flag reference kind (connection vpci vci ∷ []))) (now (room .exit)) r ⌝ }
+{
+    let at = put_header(room, flag, reference, kind, 9);
+    put_connection(room, at, vpci, vci)
+}
+
+// A message with a Cause.
+fn write_cause(room: &mut [u8], flag: bool, reference: u32, kind: u8, why: Cause) -> usize
+    requires { ⌜ 1024 ≤ length (now room) ⌝ }
+    ensures { λ r. ⌜ Fills (now (room .entry)) (octets (message flag reference kind (cause why ∷ []))) (now (room .exit)) r ⌝ }
+{
+    let diagnostic = why.diagnostic;
+    let size = 6 + diagnostic_size(diagnostic);
+    let at = put_header(room, flag, reference, kind, size);
+    put_cause(room, at, why)
+}
+
+fn write_status(room: &mut [u8], flag: bool, reference: u32, state: u8, why: Cause) -> usize
+    requires { ⌜ 1024 ≤ length (now room) ⌝ }
+    ensures { λ r. ⌜ Fills (now (room .entry)) (octets (message flag reference 0x7D (callState state ∷ cause why ∷ []))) (now (room .exit)) r ⌝ }
+{
+    let diagnostic = why.diagnostic;
+    let size = 11 + diagnostic_size(diagnostic);
+    let first = put_header(room, flag, reference, 0x7D, size);
+    let second = put_call_state(room, first, state);
+    put_cause(room, second, why)
+}
+
+fn write_restart_all(room: &mut [u8], flag: bool, reference: u32) -> usize
+    requires { ⌜ 1024 ≤ length (now room) ⌝ }
+    ensures { λ r. ⌜ Fills (now (room .entry)) (octets (message flag reference 0x4E (restart 0x82 ∷ []))) (now (room .exit)) r ⌝ }
+{
+    let at = put_header(room, flag, reference, 0x4E, 5);
+    put_restart(room, at, 0x82)
+}
+
+fn write_restart_pair(room: &mut [u8], flag: bool, reference: u32, vpci: u16, vci: u16) -> usize
+    requires { ⌜ 1024 ≤ length (now room) ⌝ }
+    ensures { λ r. ⌜ Fills (now (room .entry)) (octets (message flag reference 0x4E (restart 0x80 ∷ connection vpci vci ∷ []))) (now (room .exit)) r ⌝ }
+{
+    let first = put_header(room, flag, reference, 0x4E, 14);
+    let second = put_restart(room, first, 0x80);
+    put_connection(room, second, vpci, vci)
+}
+
+// Writes a reply with this flag and call reference, and answers its length.
+pub fn write(room: &mut [u8], flag: bool, reference: u32, reply: Reply) -> usize
+    requires { ⌜ 1024 ≤ length (now room) ⌝ }
+    ensures { λ r. ⌜ (r ≡ length (replyOctets flag reference reply))
+        × (now (room .exit) ≡ front (replyOctets flag reference reply) (now (room .entry))) ⌝ }
+{
+    match reply {
+        Reply::None => 0,
+        Reply::CallProceeding(vpci, vci) => write_connection(
+            room,
+            flag,
+            reference,
+            0x02,
+            vpci,
+            vci,
+        ),
+        Reply::Connect => write_bare(room, flag, reference, 0x07),
+        Reply::ConnectAcknowledge => write_bare(room, flag, reference, 0x0F),
+        Reply::Release(why) => write_cause(room, flag, reference, 0x4D, why),
+        Reply::ReleaseComplete => write_bare(room, flag, reference, 0x5A),
+        Reply::ReleaseCompleteWith(why) => write_cause(room, flag, reference, 0x5A, why),
+        Reply::Status(state, why) => write_status(room, flag, reference, state, why),
+        Reply::RestartAcknowledgeAll => write_restart_all(room, flag, reference),
+        Reply::RestartAcknowledge(vpci, vci) => write_restart_pair(
+            room,
+            flag,
+            reference,
+            vpci,
+            vci,
+        ),
+    }
+}
+
+// Writes SETUP for a network-originated call, and answers its length.
+pub fn write_setup(room: &mut [u8], reference: u32, vpci: u16, vci: u16, body: &[u8]) -> usize
+    requires { ⌜ (1024 ≤ length (now room)) × (length (now body) ≤ 512) ⌝ }
+    ensures { λ r. ⌜ (r ≡ length (setupOctets reference vpci vci (now (body .entry))))
+        × (now (room .exit) ≡ front (setupOctets reference vpci vci (now (body .entry))) (now (room .entry))) ⌝ }
+{
+    let first = put_header(room, false, reference, 0x05, 9 + body.len());
+    let second = put_connection(room, first, vpci, vci);
+    octets::put(room, second, body)
+}
