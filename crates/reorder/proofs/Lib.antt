@@ -1,0 +1,3 @@
+pub mod Commute
+pub mod Positions
+pub mod Reorder
