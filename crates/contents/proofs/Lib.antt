@@ -1,0 +1,4 @@
+pub mod Cases
+pub mod Walk
+pub mod Lists
+pub mod Subfields

@@ -1,0 +1,4 @@
+pub mod Walk
+pub mod Contents
+pub mod Traffic
+pub mod Fits

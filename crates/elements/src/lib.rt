@@ -1,0 +1,253 @@
+// The walk over elements, what is found of an identifier, and the values of a message's elements.
+//   item_at                       the element at a place
+//   first_of, count, whole        walks over all of them
+//   action_fits, look_for         absent, unreadable, or where the readable contents are
+//   cause, call_state, traffic, connection, bearer, restart      what one element says
+// `m` is any octets, and `from` the place of the first element: 9 in a message, 0 in an offer's body.
+// Nothing has a `requires`. Assumes nothing.
+ghost use mathlib.Core.Path.{_≡_};
+ghost use Prim.Native.Nat.{_≤_};
+ghost use mathlib.Core.Bool.{cond};
+ghost use lib.Dec.{eqb};
+ghost use lib.ListN.{length};
+ghost use Rattle.elements.specs.Elements.{itemAt, items, firstOf, countOf, wholeFrom, actionFits, lookFor, Within};
+ghost use Rattle.elements.specs.Values.{causeIn, callStateIn, connectionIn, bearerIn, restartIn};
+
+// What stands at a place: fewer than four octets, an element that overruns (its identifier),
+// or a whole one: its identifier, its octet 2, and the start and end of its contents.
+pub enum Item {
+    End,
+    Overrun(u8),
+    Whole(u8, u8, usize, usize),
+}
+
+pub fn item_at(m: &[u8], at: usize) -> Item
+    ensures { λ r. ⌜ r ≡ itemAt (now (m .entry)) at ⌝ }
+{
+    if m.len() < 4 {
+        return Item::End;
+    }
+    if m.len() - 4 < at {
+        return Item::End;
+    }
+    let start = at + 4;
+    let n = octets::number(m[at + 2], m[at + 3]) as usize;
+    if m.len() - start < n {
+        return Item::Overrun(m[at]);
+    }
+    Item::Whole(m[at], m[at + 1], start, start + n)
+}
+
+// The first element of an identifier, `End` where there is none.
+pub fn first_of(m: &[u8], from: usize, id: u8) -> Item
+    ensures { λ r. ⌜ r ≡ firstOf id (items (now (m .entry)) from) ⌝ }
+{
+    let mut at = from;
+    loop {
+        match item_at(m, at) {
+            Item::End => return Item::End,
+            Item::Overrun(met) => {
+                if met == id {
+                    return Item::Overrun(met);
+                }
+                return Item::End;
+            }
+            Item::Whole(met, action, start, end) => {
+                if met == id {
+                    return Item::Whole(met, action, start, end);
+                }
+                at = end;
+            }
+        }
+    }
+}
+
+// 1 for the identifier that is counted, 0 for another.
+fn one_if(met: u8, id: u8) -> usize
+    ensures { λ r. ⌜ r ≡ cond (eqb met id) 1 0 ⌝ }
+    ensures bound { λ r. ⌜ r ≤ 1 ⌝ }
+{
+    if met == id {
+        return 1;
+    }
+    0
+}
+
+// How many elements of an identifier there are.
+pub fn count(m: &[u8], from: usize, id: u8) -> usize
+    ensures { λ r. ⌜ r ≡ countOf id (items (now (m .entry)) from) ⌝ }
+{
+    let mut n: usize = 0;
+    let mut at = from;
+    loop {
+        match item_at(m, at) {
+            Item::End => return n,
+            Item::Overrun(met) => return n + one_if(met, id),
+            Item::Whole(met, _, _, end) => {
+                n += one_if(met, id);
+                at = end;
+            }
+        }
+    }
+}
+
+// Are the octets from a place on a whole number of elements, none overrunning?
+pub fn whole(m: &[u8], from: usize) -> bool
+    ensures { λ r. ⌜ r ≡ wholeFrom (now (m .entry)) from ⌝ }
+{
+    let mut at = from;
+    loop {
+        match item_at(m, at) {
+            Item::End => return at == m.len(),
+            Item::Overrun(_) => return false,
+            Item::Whole(_, _, _, end) => {
+                at = end;
+            }
+        }
+    }
+}
+
+// Is octet 2 readable? 80, for Cause and QoS also E0.
+pub fn action_fits(id: u8, action: u8) -> bool
+    ensures { λ r. ⌜ r ≡ actionFits id action ⌝ }
+{
+    if action == 0x80 {
+        return true;
+    }
+    if action != 0xE0 {
+        return false;
+    }
+    match id {
+        0x08 => true,
+        0x5C => true,
+        _ => false,
+    }
+}
+
+// What is found of an identifier; readable contents are the octets from a start up to an end.
+pub enum Look {
+    Absent,
+    Unreadable,
+    Readable(usize, usize),
+}
+
+pub fn look_for(m: &[u8], from: usize, id: u8) -> Look
+    ensures { λ r. ⌜ r ≡ lookFor (now (m .entry)) from id ⌝ }
+    ensures within { λ r. ⌜ Within (length (now (m .entry))) r ⌝ }
+{
+    match first_of(m, from, id) {
+        Item::End => Look::Absent,
+        Item::Overrun(_) => Look::Unreadable,
+        Item::Whole(_, action, start, end) => {
+            if !action_fits(id, action) {
+                return Look::Unreadable;
+            }
+            if contents::fits(id, &m[start..end]) {
+                return Look::Readable(start, end);
+            }
+            Look::Unreadable
+        }
+    }
+}
+
+// 08 Cause.
+pub enum CauseRead {
+    Absent,
+    Unreadable,
+    Number(u8),
+}
+
+pub fn cause(m: &[u8], from: usize) -> CauseRead
+    ensures { λ r. ⌜ r ≡ causeIn (now (m .entry)) from ⌝ }
+{
+    match look_for(m, from, 0x08) {
+        Look::Absent => CauseRead::Absent,
+        Look::Unreadable => CauseRead::Unreadable,
+        Look::Readable(start, end) => CauseRead::Number(contents::cause_number(&m[start..end])),
+    }
+}
+
+// 14 Call state.
+pub enum CallStateRead {
+    Absent,
+    Unreadable,
+    Value(u8),
+}
+
+pub fn call_state(m: &[u8], from: usize) -> CallStateRead
+    ensures { λ r. ⌜ r ≡ callStateIn (now (m .entry)) from ⌝ }
+{
+    match look_for(m, from, 0x14) {
+        Look::Absent => CallStateRead::Absent,
+        Look::Unreadable => CallStateRead::Unreadable,
+        Look::Readable(start, end) => CallStateRead::Value(contents::call_state(&m[start..end])),
+    }
+}
+
+// 59 Traffic descriptor: where its contents are, for `contents::traffic` to ask.
+pub fn traffic(m: &[u8], from: usize) -> Look
+    ensures { λ r. ⌜ r ≡ lookFor (now (m .entry)) from 0x59 ⌝ }
+    ensures within { λ r. ⌜ Within (length (now (m .entry))) r ⌝ }
+{
+    look_for(m, from, 0x59)
+}
+
+// 5A Connection identifier: VPCI and VCI.
+pub enum ConnectionRead {
+    Absent,
+    Unreadable,
+    Pair(u16, u16),
+}
+
+pub fn connection(m: &[u8], from: usize) -> ConnectionRead
+    ensures { λ r. ⌜ r ≡ connectionIn (now (m .entry)) from ⌝ }
+{
+    match look_for(m, from, 0x5A) {
+        Look::Absent => ConnectionRead::Absent,
+        Look::Unreadable => ConnectionRead::Unreadable,
+        Look::Readable(start, end) => {
+            let pair = contents::connection_in(&m[start..end]);
+            ConnectionRead::Pair(pair.vpci, pair.vci)
+        }
+    }
+}
+
+// 5E Bearer capability.
+pub enum BearerRead {
+    Absent,
+    Unreadable,
+    PointToPoint,
+    Multipoint,
+}
+
+pub fn bearer(m: &[u8], from: usize) -> BearerRead
+    ensures { λ r. ⌜ r ≡ bearerIn (now (m .entry)) from ⌝ }
+{
+    match look_for(m, from, 0x5E) {
+        Look::Absent => BearerRead::Absent,
+        Look::Unreadable => BearerRead::Unreadable,
+        Look::Readable(start, end) => {
+            if contents::is_multipoint(&m[start..end]) {
+                return BearerRead::Multipoint;
+            }
+            BearerRead::PointToPoint
+        }
+    }
+}
+
+// 79 Restart indicator: its class.
+pub enum RestartRead {
+    Absent,
+    Unreadable,
+    Class(u8),
+}
+
+pub fn restart(m: &[u8], from: usize) -> RestartRead
+    ensures { λ r. ⌜ r ≡ restartIn (now (m .entry)) from ⌝ }
+{
+    match look_for(m, from, 0x79) {
+        Look::Absent => RestartRead::Absent,
+        Look::Unreadable => RestartRead::Unreadable,
+        Look::Readable(start, end) => RestartRead::Class(contents::restart_class(&m[start..end])),
+    }
+}
