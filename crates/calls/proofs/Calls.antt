@@ -1,0 +1,62 @@
+-- Laws of slots: what names a call, what a slot holds, and pairs held.
+--   call-not-empty         a slot with a call is not empty
+--   call-named-once        a slot's call has one side and one reference
+--   held-holds             a pair is among those held if and only if some slot holds it
+-- Assumes nothing.
+use Prim.Native.Nat.{ℕ}
+use mathlib.Core.Path.{_≡_, refl}
+use mathlib.Core.Bool.{Bool, true, false, Bool·beq}
+use mathlib.Core.List.{List, [], _∷_, map}
+use lib.Dec.{eqb}
+use borrow.Author.Tests.{eqb-true}
+use Rattle.channels.specs.Some.{someOf}
+use Rattle.channels.specs.Channels.{isEntry, among}
+use Rattle.channels.proofs.Cases.{by-test, clash}
+use Rattle.calls.specs.declared.Call.{Call}
+use Rattle.calls.specs.declared.Hold.{Hold}
+use Rattle.calls.specs.declared.Hold.the-variants.{Empty, Live}
+use Rattle.calls.specs.declared.Slot.{Slot}
+use Rattle.calls.specs.Calls.{isEmpty, emptyHold, named, isCall, onPair, pairOf, holdsPair, entryOf, heldOf}
+
+pub hold-not-empty : (n : Bool) (r : ℕ) (h : Hold) → named n r h ≡ true → emptyHold h ≡ false
+hold-not-empty n r Empty e = clash e refl
+hold-not-empty n r (Live c) e = refl
+
+pub call-not-empty : (n : Bool) (r : ℕ) (s : Slot) → isCall n r s ≡ true → isEmpty s ≡ false
+call-not-empty n r s e = hold-not-empty n r (s .hold) e
+
+pub beq-true : (a b : Bool) → Bool·beq a b ≡ true → a ≡ b
+beq-true true true e = refl
+beq-true true false e = clash e refl
+beq-true false true e = clash e refl
+beq-true false false e = refl
+
+pub record Named (n : Bool) (r : ℕ) (c : Call) : Type 0 where
+  pub side : c .network ≡ n
+  pub value : c .reference ≡ r
+
+pub call-named : (n : Bool) (r : ℕ) (c : Call) → named n r (Live c) ≡ true → Named n r c
+call-named n r c e =
+    by-test (Bool·beq (c .network) n)
+    (λ t. by-test (eqb (c .reference) r)
+    (λ u. record { side = beq-true _ _ t; value = eqb-true _ _ u })
+    (λ u. clash e (rw (t, u))))
+    (λ t. clash e (rw t))
+
+pub hold-named-once : (n m : Bool) (r q : ℕ) (h : Hold) → named n r h ≡ true → named m q h ≡ true → (n ≡ m) × (r ≡ q)
+hold-named-once n m r q Empty e g = clash e refl
+hold-named-once n m r q (Live c) e g =
+    let a = call-named n r c e in
+    let b = call-named m q c g in
+    (cc (a .side, b .side), cc (a .value, b .value))
+
+pub call-named-once : (n m : Bool) (r q : ℕ) (s : Slot) → isCall n r s ≡ true → isCall m q s ≡ true → (n ≡ m) × (r ≡ q)
+call-named-once n m r q s e g = hold-named-once n m r q (s .hold) e g
+
+pub hold-pair : (p v : ℕ) (h : Hold) → isEntry p v (record { channel = pairOf h }) ≡ onPair p v h
+hold-pair p v Empty = refl
+hold-pair p v (Live c) = refl
+
+pub held-holds : (p v : ℕ) (ss : List Slot) → among p v (heldOf ss .entries) ≡ someOf (holdsPair p v) ss
+held-holds p v [] = refl
+held-holds p v (s ∷ ss) = rw (hold-pair p v (s .hold), held-holds p v ss)

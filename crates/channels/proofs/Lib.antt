@@ -1,0 +1,4 @@
+pub mod Cases
+pub mod Some
+pub mod Walk
+pub mod Lowest

@@ -1,0 +1,201 @@
+// Channels: permitted ranges, permanent pairs, and the lowest free pair.
+//   Channel, Entry, Range     a pair of VPCI and VCI or none, one entry of a list of them, one permitted range
+//   Pool, Held                what start permits; the pairs that live calls hold, one entry for each slot
+//   Entry::is                 if an entry is a pair
+//   Held::holds               if a live call holds a pair
+//   Pool::is_permanent        if a pair is permanent
+//   Pool::is_taken            if a pair is not free
+//   Pool::lowest_free         the lowest free permitted pair by VPCI and then VCI
+//   Pool::knows_vpci          if a VPCI stands in a range or in a permanent pair
+//   Pool::empty               the pool without ranges and without permanent pairs
+// Nothing here has a `requires`. Assumes nothing.
+ghost use mathlib.Core.Path.{_≡_};
+ghost use Rattle.channels.specs.Channels.{isEntry, among, taken, lowest, spansVpci, namesVpci, spannedVpci, namedVpci, knownVpci, emptyPool};
+
+// A VPCI and a VCI, or none.
+pub enum Channel {
+    None,
+    Pair(u16, u16),
+}
+
+// One place of a list of pairs.
+pub struct Entry {
+    pub channel: Channel,
+}
+
+// The pairs of one VPCI from a first VCI to a last one. An unused range has first above last: (0, 1, 0).
+pub struct Range {
+    pub vpci: u16,
+    pub first: u16,
+    pub last: u16,
+}
+
+// What start permits. An unused permanent pair is none.
+pub struct Pool {
+    pub ranges: [Range; 4],
+    pub permanents: [Entry; 8],
+}
+
+// The pairs that live calls hold, one entry for each slot.
+pub struct Held {
+    pub entries: [Entry; 32],
+}
+
+impl Entry {
+    pub fn is(self, vpci: u16, vci: u16) -> bool
+        ensures { λ r. ⌜ r ≡ isEntry vpci vci self ⌝ }
+    {
+        let channel = self.channel;
+        match channel {
+            Channel::None => false,
+            Channel::Pair(p, v) => {
+                if p == vpci {
+                    return v == vci;
+                }
+                false
+            }
+        }
+    }
+
+    pub fn names_vpci(self, vpci: u16) -> bool
+        ensures { λ r. ⌜ r ≡ namesVpci vpci self ⌝ }
+    {
+        let channel = self.channel;
+        match channel {
+            Channel::None => false,
+            Channel::Pair(p, _) => p == vpci,
+        }
+    }
+}
+
+impl Range {
+    pub fn spans_vpci(self, vpci: u16) -> bool
+        ensures { λ r. ⌜ r ≡ spansVpci vpci self ⌝ }
+    {
+        if self.vpci == vpci {
+            return self.first <= self.last;
+        }
+        false
+    }
+}
+
+impl Held {
+    pub fn holds(self, vpci: u16, vci: u16) -> bool
+        ensures { λ r. ⌜ r ≡ among vpci vci (self .entries) ⌝ }
+    {
+        let mut i: usize = 0;
+        while i < 32 {
+            let e = self.entries[i];
+            if e.is(vpci, vci) {
+                return true;
+            }
+            i += 1;
+        }
+        false
+    }
+}
+
+impl Pool {
+    // No range is used, and no pair is permanent.
+    pub fn empty() -> Pool
+        ensures { λ r. ⌜ r ≡ emptyPool ⌝ }
+    {
+        let range = Range {
+            vpci: 0,
+            first: 1,
+            last: 0,
+        };
+        let entry = Entry {
+            channel: Channel::None,
+        };
+        let ranges = [range; 4];
+        let permanents = [entry; 8];
+        Pool {
+            ranges: ranges,
+            permanents: permanents,
+        }
+    }
+
+    pub fn is_permanent(self, vpci: u16, vci: u16) -> bool
+        ensures { λ r. ⌜ r ≡ among vpci vci (self .permanents) ⌝ }
+    {
+        let mut i: usize = 0;
+        while i < 8 {
+            let e = self.permanents[i];
+            if e.is(vpci, vci) {
+                return true;
+            }
+            i += 1;
+        }
+        false
+    }
+
+    pub fn is_taken(self, held: Held, vpci: u16, vci: u16) -> bool
+        ensures { λ r. ⌜ r ≡ taken (held .entries) (self .permanents) vpci vci ⌝ }
+    {
+        if held.holds(vpci, vci) {
+            return true;
+        }
+        self.is_permanent(vpci, vci)
+    }
+
+    pub fn lowest_free(self, held: Held) -> Channel
+        ensures { λ r. ⌜ r ≡ lowest (taken (held .entries) (self .permanents)) (self .ranges) ⌝ }
+    {
+        let mut answer = Channel::None;
+        let mut i: usize = 0;
+        'search: while i < 4 {
+            let range = self.ranges[i];
+            let vpci = range.vpci;
+            let last = range.last as u32;
+            let mut v = range.first as u32;
+            while v <= last {
+                let vci = v as u16;
+                if !self.is_taken(held, vpci, vci) {
+                    answer = Channel::Pair(vpci, vci);
+                    break 'search;
+                }
+                v += 1;
+            }
+            i += 1;
+        }
+        answer
+    }
+
+    pub fn range_spans_vpci(self, vpci: u16) -> bool
+        ensures { λ r. ⌜ r ≡ spannedVpci vpci (self .ranges) ⌝ }
+    {
+        let mut i: usize = 0;
+        while i < 4 {
+            let range = self.ranges[i];
+            if range.spans_vpci(vpci) {
+                return true;
+            }
+            i += 1;
+        }
+        false
+    }
+
+    pub fn permanent_names_vpci(self, vpci: u16) -> bool
+        ensures { λ r. ⌜ r ≡ namedVpci vpci (self .permanents) ⌝ }
+    {
+        let mut i: usize = 0;
+        while i < 8 {
+            let e = self.permanents[i];
+            if e.names_vpci(vpci) {
+                return true;
+            }
+            i += 1;
+        }
+        false
+    }
+
+    pub fn knows_vpci(self, vpci: u16) -> bool
+        ensures { λ r. ⌜ r ≡ knownVpci self vpci ⌝ }
+    {
+        if self.range_spans_vpci(vpci) {
+            return true;
+        }
+        self.permanent_names_vpci(vpci)
+    }
+}
