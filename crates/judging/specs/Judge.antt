@@ -1,0 +1,130 @@
+-- The judgement of a message on a live call, on no call and on the global reference, and of a timer that fires.
+--   releaseReply, statusVerdict    RELEASE and STATUS on a live call
+--   contentsVerdict                step 6 of an expected message
+--   judge                          steps 3 to 6 of a message on a live call
+--   unanswered                     steps 3 to 6 of a message on no call, other than SETUP
+--   globalReply                    step 3 of a message on the global reference, other than RESTART with flag 0
+--   diagnosed, expire              what a firing timer does
+-- Assumes nothing.
+use Prim.Native.Nat.{ℕ, _+_}
+use mathlib.Core.Bool.{Bool, true, false, cond, _&&_}
+use mathlib.Core.List.{List}
+use lib.Dec.{eqb}
+use Rattle.calls.specs.declared.Phase.{Phase}
+use Rattle.calls.specs.declared.Phase.the-variants.{N3, N6, N9, N10, N12}
+use Rattle.calls.specs.declared.Clearing.{Clearing}
+use Rattle.calls.specs.Calls.{stateNumber}
+use Rattle.header.specs.declared.Header.{Header}
+use Rattle.elements.specs.declared.CauseRead.{CauseRead}
+use Rattle.elements.specs.declared.CauseRead.the-variants as causeRead
+use Rattle.elements.specs.declared.CallStateRead.{CallStateRead}
+use Rattle.elements.specs.declared.CallStateRead.the-variants as callStateRead
+use Rattle.elements.specs.Values.{causeIn, callStateIn}
+use Rattle.replies.specs.declared.Diagnostic.{Diagnostic}
+use Rattle.replies.specs.declared.Diagnostic.the-variants as diagnostic
+use Rattle.replies.specs.declared.Reply.{Reply}
+use Rattle.replies.specs.declared.Reply.the-variants as reply
+use Rattle.judging.specs.declared.Class.{Class}
+use Rattle.judging.specs.declared.Class.the-variants as class
+use Rattle.judging.specs.declared.Kind.{Kind}
+use Rattle.judging.specs.declared.Kind.the-variants as kind
+use Rattle.judging.specs.declared.Verdict.{Verdict}
+use Rattle.judging.specs.Class.{classify}
+use Rattle.judging.specs.Verdict.{because, plainCause, answered, silent, turned, ended}
+
+-- "RELEASE COMPLETE: no element, or 96 or 100 with 08 if Cause is absent or unreadable."
+abbrev pub releaseComplete : CauseRead → Reply
+releaseComplete causeRead.Absent = reply.ReleaseCompleteWith (because 96 (diagnostic.Octet 0x08))
+releaseComplete causeRead.Unreadable = reply.ReleaseCompleteWith (because 100 (diagnostic.Octet 0x08))
+releaseComplete (causeRead.Number n) = reply.ReleaseComplete
+
+-- "RELEASE: in N12, gone, no reply. Else gone, RELEASE COMPLETE"
+abbrev pub releaseReply : Phase → CauseRead → Reply
+releaseReply N3 c = releaseComplete c
+releaseReply (N6 d) c = releaseComplete c
+releaseReply (N9 d) c = releaseComplete c
+releaseReply N10 c = releaseComplete c
+releaseReply (N12 k) c = reply.None
+
+-- "STATUS: without a readable Call state, nothing; live call and state 0, gone; .. else nothing."
+abbrev pub statusVerdict : CallStateRead → Verdict
+statusVerdict callStateRead.Absent = silent
+statusVerdict callStateRead.Unreadable = silent
+statusVerdict (callStateRead.Value s) = cond (eqb s 0) (ended reply.None) silent
+
+-- "STATUS ENQUIRY: STATUS cause 30."; "with the type as diagnostic and the current state"
+abbrev pub statusOf : Phase → ℕ → Diagnostic → Reply
+statusOf phase n d = reply.Status (stateNumber phase) (because n d)
+
+-- "6. Contents." Of CALL PROCEEDING: T310 is 10,000 ms
+abbrev pub contentsVerdict : Kind → List ℕ → Phase → ℕ → Verdict
+contentsVerdict kind.CallProceeding m phase reading = turned (N9 (reading + 10000)) reply.None 0
+contentsVerdict kind.Connect m phase reading = turned N10 reply.ConnectAcknowledge 2
+contentsVerdict kind.ConnectAcknowledge m phase reading = silent
+contentsVerdict kind.Release m phase reading = ended (releaseReply phase (causeIn m 9))
+contentsVerdict kind.ReleaseComplete m phase reading = ended reply.None
+contentsVerdict kind.StatusEnquiry m phase reading = answered (statusOf phase 30 diagnostic.None)
+contentsVerdict kind.Status m phase reading = statusVerdict (callStateIn m 9)
+
+-- "4. Live call: unknown type gets STATUS 97; a known type not expected gets STATUS 101, both with the type as diagnostic and
+-- the current state." "5. Length field not equal to the octets after octet 9: ignored (house)."
+abbrev pub judgedAs : Class → List ℕ → Header → Phase → ℕ → Verdict
+judgedAs class.Ignored m h phase reading = silent
+judgedAs class.Unknown m h phase reading = answered (statusOf phase 97 (diagnostic.Octet (h .kind)))
+judgedAs class.Unexpected m h phase reading = answered (statusOf phase 101 (diagnostic.Octet (h .kind)))
+judgedAs (class.Expected k) m h phase reading = cond (h .whole) (contentsVerdict k m phase reading) silent
+
+abbrev pub judge : List ℕ → Header → Phase → ℕ → Verdict
+judge m h phase reading = judgedAs (classify (h .kind) phase) m h phase reading
+
+-- "no call and state not 0, RELEASE COMPLETE 101 without diagnostic"
+abbrev pub statusReply : CallStateRead → Reply
+statusReply callStateRead.Absent = reply.None
+statusReply callStateRead.Unreadable = reply.None
+statusReply (callStateRead.Value s) = cond (eqb s 0) reply.None (reply.ReleaseCompleteWith (plainCause 101))
+
+-- "No such call: RELEASE COMPLETE does nothing; STATUS ENQUIRY gets STATUS, state 0, cause 30; STATUS goes on; others but
+-- SETUP get RELEASE COMPLETE cause 81."
+abbrev pub unanswered : List ℕ → Header → Reply
+unanswered m h =
+    cond (eqb (h .kind) 0x5A)
+    reply.None
+    (cond (eqb (h .kind) 0x75)
+    (reply.Status 0 (plainCause 30))
+    (cond (eqb (h .kind) 0x7D)
+    (cond (h .whole) (statusReply (callStateIn m 9)) reply.None)
+    (reply.ReleaseCompleteWith (plainCause 81))))
+
+-- "Global: STATUS does nothing. RESTART with flag 0 goes on. RESTART ACKNOWLEDGE with flag 1: STATUS cause 101. All else:
+-- STATUS cause 81. Global STATUS shows state 0." "A global 101 carries its type too."
+abbrev pub globalReply : Header → Reply
+globalReply h =
+    cond (eqb (h .kind) 0x7D)
+    reply.None
+    (cond (eqb (h .kind) 0x4E && h .flag)
+    (reply.Status 0 (because 101 (diagnostic.Octet 0x4E)))
+    (reply.Status 0 (plainCause 81)))
+
+-- the diagnostic "310" or none
+abbrev pub diagnosed : Bool → Diagnostic
+diagnosed expired = cond expired diagnostic.Timer diagnostic.None
+
+-- RELEASE with its cause, and T308 of 30,000 ms
+abbrev pub clearing : ℕ → Bool → ℕ → Bool → Phase
+clearing reading second cause expired = N12 (record { deadline = reading + 30000; second = second; cause = cause; expired = expired })
+
+abbrev pub released : ℕ → Bool → ℕ → Bool → Verdict
+released reading second cause expired =
+    turned (clearing reading second cause expired) (reply.Release (because cause (diagnosed expired))) 0
+
+-- "T308 30,000: first, RELEASE with the first cause and diagnostic again and T308; second, gone."
+abbrev pub expireClearing : Clearing → ℕ → Verdict
+expireClearing k reading = cond (k .second) (ended reply.None) (released reading true (k .cause) (k .expired))
+
+-- "T303 4,000 ms: gone, no message (house). T310 10,000: RELEASE 102, diagnostic "310", N12, T308." N3 and N10 run no timer
+abbrev pub expire : Phase → ℕ → Verdict
+expire N3 reading = silent
+expire (N6 d) reading = ended reply.None
+expire (N9 d) reading = released reading false 102 true
+expire N10 reading = silent
+expire (N12 k) reading = expireClearing k reading
