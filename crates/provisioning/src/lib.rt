@@ -57,11 +57,7 @@ pub fn range_at(s: &[u16], k: usize) -> Range
             last: s[at + 2],
         };
     }
-    Range {
-        vpci: 0,
-        first: 1,
-        last: 0,
-    }
+    Range::unused()
 }
 
 // The k-th pair as the range of its one VCI, or an unused range.
@@ -76,11 +72,7 @@ pub fn single_at(s: &[u16], k: usize) -> Range
             last: s[at + 1],
         };
     }
-    Range {
-        vpci: 0,
-        first: 1,
-        last: 0,
-    }
+    Range::unused()
 }
 
 // The k-th pair, or none.

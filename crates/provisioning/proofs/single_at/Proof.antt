@@ -35,8 +35,11 @@ shared-slice-read-t17 c = search needs
 returns : tie.Need-returns
 returns c = rw (lt-ltb _ _ (c .before .before .before .if1 .taken))
 
+unused-requires : tie.Need-unused-requires
+unused-requires c κs = search needs
+
 returns-2 : tie.Need-returns-2
-returns-2 c = rw (le-ltb _ _ (c .if1 .left))
+returns-2 c = rw (le-ltb _ _ (c .before .if1 .left)) (c .unused .ensures)
 
 pub single-at-spec : {M : Type 1} → statement M
 single-at-spec =
@@ -52,4 +55,5 @@ single-at-spec =
     mul-t15
     shared-slice-read-t17
     returns
+    unused-requires
     returns-2)
