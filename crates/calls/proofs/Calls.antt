@@ -6,7 +6,7 @@
 use Prim.Native.Nat.{ℕ}
 use mathlib.Core.Path.{_≡_, refl}
 use mathlib.Core.Bool.{Bool, true, false, Bool·beq}
-use mathlib.Core.List.{List, [], _∷_, map}
+use mathlib.Core.List.{List, [], _∷_}
 use lib.Dec.{eqb}
 use borrow.Author.Tests.{eqb-true}
 use Rattle.channels.specs.Some.{someOf}
@@ -16,7 +16,7 @@ use Rattle.calls.specs.declared.Call.{Call}
 use Rattle.calls.specs.declared.Hold.{Hold}
 use Rattle.calls.specs.declared.Hold.the-variants.{Empty, Live}
 use Rattle.calls.specs.declared.Slot.{Slot}
-use Rattle.calls.specs.Calls.{isEmpty, emptyHold, named, isCall, onPair, pairOf, holdsPair, entryOf, heldOf}
+use Rattle.calls.specs.Calls.{isEmpty, emptyHold, named, isCall, onPair, pairOf, holdsPair, heldOf}
 
 pub hold-not-empty : (n : Bool) (r : ℕ) (h : Hold) → named n r h ≡ true → emptyHold h ≡ false
 hold-not-empty n r Empty e = clash e refl

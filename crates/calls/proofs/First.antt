@@ -7,7 +7,7 @@
 --   first-after, place-after, marked-after, some-after     what a search finds after such a change is what it finds before
 --   none-after, length-after    as many flags, and as many elements, after any change
 -- Assumes nothing.
-use Prim.Native.Nat.{ℕ, zero, suc, _+_, _-_, _≤_, _<_}
+use Prim.Native.Nat.{ℕ, suc, _+_, _-_, _≤_, _<_}
 use mathlib.Core.Path.{_≡_, refl, ap, _∙_}
 use mathlib.Core.Bool.{Bool, true, false}
 use mathlib.Core.List.{List, [], _∷_}

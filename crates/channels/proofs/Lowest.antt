@@ -3,19 +3,25 @@
 --   lowest-none         if none is found, t names every pair of every range
 --   none-lowest         and the other way round
 --   lowest-same         two tests that agree on every pair have one answer
+-- And of a pool, where t is `taken`:
+--   free-permitted      a pair that is found is permitted, and no live call holds it
+--   none-free           if none is found, a live call holds every permitted pair
+--   all-held            and the other way round
 -- Assumes nothing.
 use Prim.Native.Nat.{ℕ, zero, suc, _+_, _-_, _≤_, _<_}
-use mathlib.Core.Path.{_≡_, refl, sym, ap, _∙_, fun-ext}
+use mathlib.Core.Path.{_≡_, refl, ap, _∙_, fun-ext}
 use mathlib.Core.Logic.{_⊎_, inl, inr, ⊎-elim}
-use mathlib.Core.Bool.{Bool, true, false, _&&_, _||_, or-true}
+use mathlib.Core.Bool.{Bool, true, false, or-true}
 use mathlib.Core.List.{List, [], _∷_}
 use native.Mathlib.Omega.{arith}
 use lib.Dec.{eqb, leb}
 use borrow.Author.Tests.{eqb-true, eqb-false, leb-true, eq-eqb, le-leb}
-use Rattle.channels.specs.Channels.{scan, lowest, inRange, inRanges}
+use Rattle.channels.specs.Channels.{scan, lowest, inRange, inRanges, among, permanent, permitted, taken}
 use Rattle.channels.specs.declared.Channel.{Channel}
 use Rattle.channels.specs.declared.Channel.the-variants.{None, Pair}
+use Rattle.channels.specs.declared.Entry.{Entry}
 use Rattle.channels.specs.declared.Range.{Range}
+use Rattle.channels.specs.declared.Pool.{Pool}
 use Rattle.channels.proofs.Cases.{by-test, clash}
 
 -- the pair (p, v) is among the n VCIs from w of VPCI q, and t does not name it
@@ -98,3 +104,29 @@ none-lowest t (r ∷ rs) h =
 
 pub lowest-same : (t u : ℕ → ℕ → Bool) (rs : List Range) → ((p v : ℕ) → t p v ≡ u p v) → lowest t rs ≡ lowest u rs
 lowest-same t u rs h = ap (λ (s : ℕ → ℕ → Bool). lowest s rs) (fun-ext (λ p. fun-ext (λ v. h p v)))
+
+module _ (held : List Entry) (pool : Pool) where
+  abbrev lowestFree : Channel
+  lowestFree = lowest (taken held (pool .permanents)) (pool .ranges)
+
+  pub free-permitted : (p v : ℕ) → lowestFree ≡ Pair p v → (permitted pool p v ≡ true) × (among p v held ≡ false)
+  free-permitted p v e =
+      let l = lowest-free (taken held (pool .permanents)) (pool .ranges) p v e in
+      by-test (among p v held)
+      (λ t. clash (rw t) (l .1))
+      (λ t. by-test (permanent pool p v)
+      (λ u. clash (rw (t, u)) (l .1))
+      (λ u. (rw (l .0, u), t)))
+
+  pub none-free : lowestFree ≡ None → (p v : ℕ) → permitted pool p v ≡ true → among p v held ≡ true
+  none-free e p v h =
+      by-test (inRanges p v (pool .ranges))
+      (λ t. by-test (permanent pool p v)
+      (λ u. clash h (rw (t, u)))
+      (λ u. by-test (among p v held) (λ w. w) (λ w. clash (lowest-none (taken held (pool .permanents)) (pool .ranges) e p v t) (rw (w, u)))))
+      (λ t. clash h (rw t))
+
+  pub all-held : ((p v : ℕ) → permitted pool p v ≡ true → among p v held ≡ true) → lowestFree ≡ None
+  all-held h =
+      none-lowest (taken held (pool .permanents)) (pool .ranges)
+      (λ p v t. by-test (permanent pool p v) (λ u. rw u (or-true (among p v held))) (λ u. rw (h p v (rw (t, u)))))

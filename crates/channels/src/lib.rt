@@ -2,6 +2,7 @@
 //   Channel, Entry, Range     a pair of VPCI and VCI or none, one entry of a list of them, one permitted range
 //   Pool, Held                what start permits; the pairs that live calls hold, one entry for each slot
 //   Entry::is                 if an entry is a pair
+//   Range::unused             the range without a VCI
 //   Held::holds               if a live call holds a pair
 //   Pool::is_permanent        if a pair is permanent
 //   Pool::is_taken            if a pair is not free
@@ -10,7 +11,7 @@
 //   Pool::empty               the pool without ranges and without permanent pairs
 // Nothing here has a `requires`. Assumes nothing.
 ghost use mathlib.Core.Path.{_≡_};
-ghost use Rattle.channels.specs.Channels.{isEntry, among, taken, lowest, spansVpci, namesVpci, spannedVpci, namedVpci, knownVpci, emptyPool};
+ghost use Rattle.channels.specs.Channels.{isEntry, among, taken, lowest, spansVpci, namesVpci, spannedVpci, namedVpci, knownVpci, noRange, emptyPool};
 
 // A VPCI and a VCI, or none.
 pub enum Channel {
@@ -69,6 +70,16 @@ impl Entry {
 }
 
 impl Range {
+    pub fn unused() -> Range
+        ensures { λ r. ⌜ r ≡ noRange ⌝ }
+    {
+        Range {
+            vpci: 0,
+            first: 1,
+            last: 0,
+        }
+    }
+
     pub fn spans_vpci(self, vpci: u16) -> bool
         ensures { λ r. ⌜ r ≡ spansVpci vpci self ⌝ }
     {
@@ -100,11 +111,7 @@ impl Pool {
     pub fn empty() -> Pool
         ensures { λ r. ⌜ r ≡ emptyPool ⌝ }
     {
-        let range = Range {
-            vpci: 0,
-            first: 1,
-            last: 0,
-        };
+        let range = Range::unused();
         let entry = Entry {
             channel: Channel::None,
         };

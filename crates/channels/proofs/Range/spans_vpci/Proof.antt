@@ -1,6 +1,5 @@
 -- `Range::spans_vpci` meets its contract: by its test.
 -- Assumes nothing.
-use borrow.Author.Needs.{needs}
 use borrow.Author.Tests.{eq-eqb, ne-eqb}
 use Rattle.channels.proofs.Range.spans_vpci.Statement.{statement}
 use Rattle.channels.proofs.Range.spans_vpci.Tie as tie

@@ -1,0 +1,4 @@
+pub mod Ascending
+pub mod Accepted
+pub mod Least
+pub mod Examples
