@@ -1,0 +1,91 @@
+-- What an accepted event does to the table: one value, from which the answer is read off.
+--   fated                  a slot after its call's fate
+--   noFlags, flagsAt       no flag, and the flag of one slot
+--   quiet, replying        nothing happens; a reply alone
+--   onSlot                 a verdict performed on the call of one slot
+--   assigned               a call put into an empty slot
+--   afterGone              some calls are gone
+-- Assumes nothing.
+use Prim.Native.Nat.{ℕ}
+use mathlib.Core.Bool.{Bool, true, false, cond}
+use mathlib.Core.List.{List}
+use lib.Dec.{eqb}
+use lib.ListN.{getD, set, replicate}
+use Rattle.channels.specs.Some.{someOf}
+use Rattle.calls.specs.declared.Phase.{Phase}
+use Rattle.calls.specs.declared.Call.{Call}
+use Rattle.calls.specs.declared.Hold.{Hold}
+use Rattle.calls.specs.declared.Hold.the-variants.{Empty, Live}
+use Rattle.calls.specs.declared.Slot.{Slot}
+use Rattle.calls.specs.declared.Slots.{Slots}
+use Rattle.calls.specs.declared.Flags.{Flags}
+use Rattle.calls.specs.declared.Gone.{Gone}
+use Rattle.calls.specs.Calls.{moved, noSlot}
+use Rattle.replies.specs.declared.Reply.{Reply}
+use Rattle.replies.specs.declared.Reply.the-variants as reply
+use Rattle.judging.specs.declared.Fate.{Fate}
+use Rattle.judging.specs.declared.Fate.the-variants as fate
+use Rattle.judging.specs.declared.Verdict.{Verdict}
+use Rattle.effects.specs.declared.Effect.{Effect}
+
+-- "The table has the 32 slots of calls"
+abbrev pub slotCount : ℕ
+slotCount = 32
+
+-- "Each state change stops the old timer." ""Gone" empties slot and pair"
+abbrev pub turnedHold : Phase → Hold → Slot
+turnedHold phase Empty = noSlot
+turnedHold phase (Live c) = record { hold = Live (moved c phase) }
+
+abbrev pub fated : Fate → Slot → Slot
+fated fate.Stay s = s
+fated (fate.To phase) s = turnedHold phase (s .hold)
+fated fate.Gone s = noSlot
+
+-- "thirty-two flags, one for each slot, naming exactly the slots meant; with 0 none is set"
+abbrev pub noFlags : Flags
+noFlags = record { on = replicate slotCount false }
+
+abbrev pub flagsAt : ℕ → Flags
+flagsAt i = record { on = set (replicate slotCount false) i true }
+
+abbrev pub flagged : ℕ → ℕ → Flags
+flagged notice i = cond (eqb notice 0) noFlags (flagsAt i)
+
+abbrev pub replying : Slots → Bool → ℕ → Reply → Effect
+replying ss flag r answer = record { slots = ss; flag = flag; reference = r; reply = answer; notice = 0; flags = noFlags }
+
+abbrev pub quiet : Slots → Effect
+quiet ss = replying ss false 0 reply.None
+
+-- a verdict on the call of slot i; replies about it carry this flag and call reference
+abbrev pub onSlot : Slots → ℕ → Bool → ℕ → Verdict → Effect
+onSlot ss i flag r v = record {
+  slots = record { all = set (ss .all) i (fated (v .fate) (getD (ss .all) i noSlot)) };
+  flag = flag;
+  reference = r;
+  reply = v .reply;
+  notice = v .notice;
+  flags = flagged (v .notice) i;
+}
+
+-- a call put into slot i: "notice 1"
+abbrev pub assigned : Slots → ℕ → Bool → ℕ → Call → Reply → Effect
+assigned ss i flag r c answer = record {
+  slots = record { all = set (ss .all) i (record { hold = Live c }) };
+  flag = flag;
+  reference = r;
+  reply = answer;
+  notice = 1;
+  flags = flagsAt i;
+}
+
+-- "Notice 3 only if some call went."
+abbrev pub isSet : Bool → Bool
+isSet b = b
+
+abbrev pub goneNotice : Flags → ℕ
+goneNotice f = cond (someOf isSet (f .on)) 3 0
+
+abbrev pub afterGone : Gone → Bool → Reply → Effect
+afterGone g flag answer = record { slots = g .slots; flag = flag; reference = 0; reply = answer; notice = goneNotice (g .flags); flags = g .flags }
