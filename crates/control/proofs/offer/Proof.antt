@@ -1,0 +1,109 @@
+-- `control::offer` meets its contract: the refusals in their order, and SETUP.
+-- Assumes nothing.
+use borrow.Author.Needs.{needs}
+use mathlib.Core.Path.{refl, sym, _∙_}
+use borrow.Author.Tests.{ne-eqb}
+use Rattle.control.proofs.offer.Statement.{statement}
+use Rattle.control.proofs.offer.Tie as tie
+
+common-refusal-requires : tie.Need-common-refusal-requires
+common-refusal-requires c κs = search needs
+
+refuse-requires : tie.Need-refuse-requires
+refuse-requires c κs = search needs
+
+returns : tie.Need-returns
+returns c = rw (← c .before .before .common-refusal .ensures .0, ne-eqb _ _ (c .before .if1 .taken), ne-eqb _ _ (c .before .if1 .taken))
+    (c .refuse .ensures, refl)
+
+body-refusal-requires : tie.Need-body-refusal-requires
+body-refusal-requires c κs = search needs
+
+refuse-requires-2 : tie.Need-refuse-requires-2
+refuse-requires-2 c κs = search needs
+
+returns-2 : tie.Need-returns-2
+returns-2 c = rw (sym (c .before .before .before .before .common-refusal .ensures .0) ∙ c .before .before .before .if1 .left, ← c .before .before .body-refusal .ensures .0, ne-eqb _ _ (c .before .if2 .taken), ne-eqb _ _ (c .before .if2 .taken))
+    (c .refuse2 .ensures, refl)
+
+lowest-empty-requires : tie.Need-lowest-empty-requires
+lowest-empty-requires c κs = search needs
+
+enum-told : tie.Need-enum-told
+enum-told c = search needs
+
+refuse-requires-3 : tie.Need-refuse-requires-3
+refuse-requires-3 c κs = search needs
+
+enum-known-i : tie.Need-enum-known-i
+enum-known-i c = search needs
+
+free-pair-requires : tie.Need-free-pair-requires
+free-pair-requires c κs = search needs
+
+enum-told-2 : tie.Need-enum-told-2
+enum-told-2 c = search needs
+
+refuse-requires-4 : tie.Need-refuse-requires-4
+refuse-requires-4 c κs = search needs
+
+enum-known-vpci : tie.Need-enum-known-vpci
+enum-known-vpci c = search needs
+
+send-setup-requires : tie.Need-send-setup-requires
+send-setup-requires c κs = let l = c .before .before .before .before .before .before .before .before in
+    let w = l .before .before .before in (
+      rw (c .before .before .before .before .before .before .i .given .1) at (l .lowest-empty .ensures .1),
+      w .before .before .common-refusal .ensures .1 (w .before .if1 .left) .1,
+      w .before .before .common-refusal .ensures .1 (w .before .if1 .left) .0,
+      w .body-refusal .ensures .1 (l .before .before .if2 .left),
+    )
+
+returns-3 : tie.Need-returns-3
+returns-3 c = rw (sym (c .before .before .before .before .before .before .before .before .common-refusal .ensures .0) ∙ c .before .before .before .before .before .before .before .if1 .left, sym (c .before .before .before .before .before .before .body-refusal .ensures .0) ∙ c .before .before .before .before .before .if2 .left, sym (c .before .before .before .lowest-empty .ensures .0) ∙ c .before .enum-told .given .1)
+    (c .refuse3 .ensures, refl)
+
+returns-4 : tie.Need-returns-4
+returns-4 c = rw (
+  sym (c .before .before .before .before .before .before .before .before .before .before .before .before .common-refusal .ensures .0) ∙ c .before .before .before .before .before .before .before .before .before .before .before .if1 .left,
+  sym (c .before .before .before .before .before .before .before .before .before .before .body-refusal .ensures .0) ∙ c .before .before .before .before .before .before .before .before .before .if2 .left,
+  sym (c .before .before .before .before .before .before .before .lowest-empty .ensures .0) ∙ c .before .before .before .before .before .i .given .1,
+  sym (c .before .before .before .free-pair .ensures) ∙ c .before .enum-told2 .given .1,
+)
+    (c .refuse4 .ensures, refl)
+
+same-length : tie.Need-same-length
+same-length c = search needs
+
+returns-5 : tie.Need-returns-5
+returns-5 c = rw (
+  sym (c .before .before .before .before .before .before .before .before .before .before .before .before .before .before .before .before .common-refusal .ensures .0) ∙ c .before .before .before .before .before .before .before .before .before .before .before .before .before .before .before .if1 .left,
+  sym (c .before .before .before .before .before .before .before .before .before .before .before .before .before .before .body-refusal .ensures .0) ∙ c .before .before .before .before .before .before .before .before .before .before .before .before .before .if2 .left,
+  sym (c .before .before .before .before .before .before .before .before .before .before .before .lowest-empty .ensures .0) ∙ c .before .before .before .before .before .before .before .before .before .i .given .1,
+  sym (c .before .before .before .before .before .before .before .free-pair .ensures) ∙ c .before .before .before .before .before .vpci .given .1,
+)
+    (c .before .before .send-setup .ensures)
+
+pub offer-spec : {M : Type 1} → statement M
+offer-spec =
+    tie.close
+    (tie.spec
+    common-refusal-requires
+    refuse-requires
+    returns
+    body-refusal-requires
+    refuse-requires-2
+    returns-2
+    lowest-empty-requires
+    enum-told
+    refuse-requires-3
+    enum-known-i
+    free-pair-requires
+    enum-told-2
+    refuse-requires-4
+    enum-known-vpci
+    send-setup-requires
+    returns-3
+    returns-4
+    same-length
+    returns-5)

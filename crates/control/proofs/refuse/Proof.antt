@@ -1,0 +1,14 @@
+-- `control::refuse` meets its contract: no flag is set.
+-- Assumes nothing.
+use borrow.Author.Needs.{needs}
+use Rattle.control.proofs.refuse.Statement.{statement}
+use Rattle.control.proofs.refuse.Tie as tie
+
+none-requires : tie.Need-none-requires
+none-requires c κs = search needs
+
+returns : tie.Need-returns
+returns c = rw (c .none .ensures)
+
+pub refuse-spec : {M : Type 1} → statement M
+refuse-spec = tie.close (tie.spec none-requires returns)

@@ -1,0 +1,126 @@
+-- What a message does, as a decision and a change of slots.
+--   Deed                       the call that a message names has a fate, or the lowest empty slot is filled
+--   given, perform             a deed's answer, and the slots after it
+--   Sight, sight               what a message sees of the slots
+--   decide, decision           the deed of a message, as document 01 decides it: from the message and what it sees, and nothing else
+-- Assumes nothing.
+use Prim.Native.Nat.{ℕ}
+use mathlib.Core.Bool.{Bool, true, false, not, cond, _&&_}
+use mathlib.Core.List.{List, map}
+use lib.Dec.{eqb}
+use Rattle.channels.specs.declared.Channel.{Channel}
+use Rattle.channels.specs.declared.Channel.the-variants.{None, Pair}
+use Rattle.channels.specs.declared.Pool.{Pool}
+use Rattle.channels.specs.Channels.{taken, lowest}
+use Rattle.calls.specs.declared.Hold.{Hold}
+use Rattle.calls.specs.declared.Hold.the-variants.{Empty, Live}
+use Rattle.calls.specs.declared.Slot.{Slot}
+use Rattle.calls.specs.declared.Found.{Found}
+use Rattle.calls.specs.declared.Found.the-variants.{Nothing, At}
+use Rattle.calls.specs.First.{place, first, upd}
+use Rattle.calls.specs.Calls.{noSlot, isEmpty, isCall, entryOf}
+use Rattle.header.specs.declared.Header.{Header}
+use Rattle.replies.specs.declared.Reply.{Reply}
+use Rattle.replies.specs.declared.Reply.the-variants as reply
+use Rattle.replies.specs.Reply.{replyOctets}
+use Rattle.setup.specs.declared.Admission.{Admission}
+use Rattle.setup.specs.declared.Admission.the-variants.{Admitted, Refused}
+use Rattle.setup.specs.Setup.{admission}
+use Rattle.judging.specs.declared.Fate.{Fate}
+use Rattle.judging.specs.declared.Fate.the-variants as fate
+use Rattle.judging.specs.declared.Verdict.{Verdict}
+use Rattle.judging.specs.Verdict.{plainCause}
+use Rattle.judging.specs.Judge.{judge, unanswered}
+use Rattle.effects.specs.Effect.{fated, noFlags, flagsAt, flagged}
+use Rattle.effects.specs.Effects.{userCall}
+use Rattle.independence.specs.Independence.{Given}
+
+-- `turns`: the first call of the message's flagged reference has a fate. `fills`: the lowest empty slot gets a call of this reference on this pair
+pub data Deed : Type 0 where
+  turns : Given → Fate → Deed
+  fills : Given → (r p v : ℕ) → Deed
+
+abbrev pub given : Deed → Given
+given (turns g f) = g
+given (fills g r p v) = g
+
+abbrev pub userSlot : ℕ → ℕ → ℕ → Slot
+userSlot r p v = record { hold = Live (userCall r p v) }
+
+-- the first slot that passes a test is changed
+abbrev pub reaches : (Slot → Bool) → Deed → Slot → Bool
+reaches own (turns g f) = own
+reaches own (fills g r p v) = isEmpty
+
+abbrev pub changed : Deed → Slot → Slot
+changed (turns g f) s = fated f s
+changed (fills g r p v) s = userSlot r p v
+
+abbrev pub perform : (Slot → Bool) → Deed → List Slot → List Slot
+perform own d ss = upd (reaches own d) (changed d) ss
+
+-- where the message's call is, and its slot; where the lowest empty slot is; the lowest free pair
+pub record Sight : Type 0 where
+  pub call : Found
+  pub slot : Slot
+  pub empty : Found
+  pub pair : Channel
+
+abbrev pub sight : (Slot → Bool) → Pool → List Slot → Sight
+sight own pool ss = record {
+  call = place own ss;
+  slot = first own noSlot ss;
+  empty = place isEmpty ss;
+  pair = lowest (taken (map entryOf ss) (pool .permanents)) (pool .ranges);
+}
+
+-- a reply alone
+abbrev pub replied : Bool → ℕ → Reply → Given
+replied flag r answer = record { refusal = 0; reply = replyOctets flag r answer; notice = 0; flags = noFlags }
+
+abbrev pub still : Bool → ℕ → Reply → Deed
+still flag r answer = turns (replied flag r answer) fate.Stay
+
+-- SETUP on no call: the causes 45, 47 and those of its elements, or a new call
+abbrev pub onPair : ℕ → ℕ → Channel → Deed
+onPair r i None = still true r (reply.ReleaseCompleteWith (plainCause 45))
+onPair r i (Pair p v) = fills (record { refusal = 0; reply = replyOctets true r (reply.CallProceeding p v); notice = 1; flags = flagsAt i }) r p v
+
+abbrev pub admit : ℕ → Found → Channel → Deed
+admit r Nothing c = still true r (reply.ReleaseCompleteWith (plainCause 47))
+admit r (At i) c = onPair r i c
+
+abbrev pub setUp : ℕ → Found → Channel → Admission → Deed
+setUp r e c (Refused cause) = still true r (reply.ReleaseCompleteWith cause)
+setUp r e c Admitted = admit r e c
+
+abbrev pub onNoCall : List ℕ → Header → Found → Channel → Deed
+onNoCall m h e c =
+    cond (eqb (h .kind) 0x05)
+    (cond (not (h .flag) && h .whole) (setUp (h .reference) e c (admission m 9)) (still false 0 reply.None))
+    (still (not (h .flag)) (h .reference) (unanswered m h))
+
+-- a message on a live call: its verdict
+abbrev pub turned : Header → ℕ → Verdict → Deed
+turned h i v =
+    turns
+    (record { refusal = 0; reply = replyOctets (not (h .flag)) (h .reference) (v .reply); notice = v .notice; flags = flagged (v .notice) i })
+    (v .fate)
+
+abbrev pub onHold : List ℕ → Header → ℕ → ℕ → Hold → Deed
+onHold m h reading i Empty = still false 0 reply.None
+onHold m h reading i (Live c) = turned h i (judge m h (c .phase) reading)
+
+abbrev pub decideAt : List ℕ → Header → ℕ → Sight → Found → Deed
+decideAt m h reading see Nothing = onNoCall m h (see .empty) (see .pair)
+decideAt m h reading see (At i) = onHold m h reading i (see .slot .hold)
+
+abbrev pub decide : List ℕ → Header → ℕ → Sight → Deed
+decide m h reading see = decideAt m h reading see (see .call)
+
+-- the slot of the call that a header names
+abbrev pub mine : Header → Slot → Bool
+mine h = isCall (h .flag) (h .reference)
+
+abbrev pub decision : List ℕ → Header → ℕ → Pool → List Slot → Deed
+decision m h reading pool ss = decide m h reading (sight (mine h) pool ss)

@@ -1,0 +1,111 @@
+-- A CALL PROCEEDING, CONNECT, CONNECT ACKNOWLEDGE or STATUS ENQUIRY ends no call.
+--   EasyClass, judged-calm     what these four are to a live call, and that it stays or goes to another state
+--   easy-calm                  so it is of every decision on one of them
+--   easy-not-setup             none of them is SETUP
+-- Assumes nothing.
+use Prim.Native.Nat.{ℕ}
+use mathlib.Core.Path.{_≡_, refl}
+use mathlib.Core.Bool.{Bool, true, false, cond}
+use mathlib.Core.List.{List}
+use lib.Dec.{eqb}
+use borrow.Author.Tests.{eqb-true}
+use Rattle.channels.specs.declared.Channel.{Channel}
+use Rattle.channels.proofs.Cases.{by-test, clash}
+use Rattle.calls.specs.declared.Phase.{Phase}
+use Rattle.calls.specs.declared.Phase.the-variants.{N3, N6, N9, N10, N12}
+use Rattle.calls.specs.declared.Hold.{Hold}
+use Rattle.calls.specs.declared.Hold.the-variants.{Empty, Live}
+use Rattle.calls.specs.declared.Found.{Found}
+use Rattle.calls.specs.declared.Found.the-variants.{Nothing, At}
+use Rattle.header.specs.declared.Header.{Header}
+use Rattle.judging.specs.declared.Class.{Class}
+use Rattle.judging.specs.declared.Class.the-variants as class
+use Rattle.judging.specs.declared.Kind.{Kind}
+use Rattle.judging.specs.declared.Kind.the-variants as kind
+use Rattle.judging.specs.declared.Verdict.{Verdict}
+use Rattle.judging.specs.Class.{classify, inN6, inN6or9, inN10}
+use Rattle.judging.specs.Judge.{contentsVerdict, judgedAs}
+use Rattle.independence.specs.Independence.{Given, easy}
+use Rattle.independence.proofs.Deeds.{Deed, turns, Sight, onNoCall, onHold, decideAt, decide}
+use Rattle.independence.proofs.Local.{Calm, stay, to}
+
+data EasyKind : Kind → Type 0 where
+  proceeding : EasyKind kind.CallProceeding
+  connect : EasyKind kind.Connect
+  acknowledge : EasyKind kind.ConnectAcknowledge
+  enquiry : EasyKind kind.StatusEnquiry
+
+data EasyClass : Class → Type 0 where
+  unexpected : EasyClass class.Unexpected
+  expected : {k : Kind} → EasyKind k → EasyClass (class.Expected k)
+
+contents-calm : {k : Kind} (m : List ℕ) (phase : Phase) (reading : ℕ) → EasyKind k → Calm (contentsVerdict k m phase reading .fate)
+contents-calm m phase reading proceeding = to _
+contents-calm m phase reading connect = to _
+contents-calm m phase reading acknowledge = stay
+contents-calm m phase reading enquiry = stay
+
+calm-cond : (b : Bool) (v w : Verdict) → Calm (v .fate) → Calm (w .fate) → Calm (cond b v w .fate)
+calm-cond true v w x y = x
+calm-cond false v w x y = y
+
+judged-calm : (c : Class) (m : List ℕ) (h : Header) (phase : Phase) (reading : ℕ) → EasyClass c → Calm (judgedAs c m h phase reading .fate)
+judged-calm c m h phase reading unexpected = stay
+judged-calm c m h phase reading (expected e) = calm-cond (h .whole) _ _ (contents-calm m phase reading e) stay
+
+easy-N6 : (phase : Phase) (c : Class) → EasyClass c → EasyClass (inN6 phase c)
+easy-N6 N3 c e = unexpected
+easy-N6 (N6 d) c e = e
+easy-N6 (N9 d) c e = unexpected
+easy-N6 N10 c e = unexpected
+easy-N6 (N12 k) c e = unexpected
+
+easy-N6or9 : (phase : Phase) (c : Class) → EasyClass c → EasyClass (inN6or9 phase c)
+easy-N6or9 N3 c e = unexpected
+easy-N6or9 (N6 d) c e = e
+easy-N6or9 (N9 d) c e = e
+easy-N6or9 N10 c e = unexpected
+easy-N6or9 (N12 k) c e = unexpected
+
+easy-N10 : (phase : Phase) (c : Class) → EasyClass c → EasyClass (inN10 phase c)
+easy-N10 N3 c e = unexpected
+easy-N10 (N6 d) c e = unexpected
+easy-N10 (N9 d) c e = unexpected
+easy-N10 N10 c e = e
+easy-N10 (N12 k) c e = unexpected
+
+-- a type number that is easy is one of the four
+by-easy : (P : ℕ → Type 0) (n : ℕ) → easy n ≡ true → P 0x02 → P 0x07 → P 0x0F → P 0x75 → P n
+by-easy P n e a b c d =
+    by-test (eqb n 0x02) (λ t. rw (eqb-true n 0x02 t) a)
+    (λ t. by-test (eqb n 0x07) (λ u. rw (eqb-true n 0x07 u) b)
+    (λ u. by-test (eqb n 0x0F) (λ v. rw (eqb-true n 0x0F v) c)
+    (λ v. by-test (eqb n 0x75) (λ w. rw (eqb-true n 0x75 w) d) (λ w. clash e (rw (t, u, v, w))))))
+
+easy-class : (n : ℕ) (phase : Phase) → easy n ≡ true → EasyClass (classify n phase)
+easy-class n phase e =
+    by-easy (λ (k : ℕ). EasyClass (classify k phase)) n e
+    (easy-N6 phase _ (expected proceeding))
+    (easy-N6or9 phase _ (expected connect))
+    (easy-N10 phase _ (expected acknowledge))
+    (expected enquiry)
+
+pub easy-not-setup : (n : ℕ) → easy n ≡ true → eqb n 0x05 ≡ false
+easy-not-setup n e = by-easy (λ (k : ℕ). eqb k 0x05 ≡ false) n e refl refl refl refl
+
+pub data CalmDeed : Deed → Type 0 where
+  calm : (g : Given) {f : _} → Calm f → CalmDeed (turns g f)
+
+no-call-calm : (m : List ℕ) (h : Header) (f : Found) (c : Channel) → eqb (h .kind) 0x05 ≡ false → CalmDeed (onNoCall m h f c)
+no-call-calm m h f c e = rw e (calm _ stay)
+
+hold-calm : (m : List ℕ) (h : Header) (reading i : ℕ) (k : Hold) → easy (h .kind) ≡ true → CalmDeed (onHold m h reading i k)
+hold-calm m h reading i Empty e = calm _ stay
+hold-calm m h reading i (Live c) e = calm _ (judged-calm _ m h (c .phase) reading (easy-class (h .kind) (c .phase) e))
+
+found-calm : (m : List ℕ) (h : Header) (reading : ℕ) (see : Sight) (f : Found) → easy (h .kind) ≡ true → CalmDeed (decideAt m h reading see f)
+found-calm m h reading see Nothing e = no-call-calm m h (see .empty) (see .pair) (easy-not-setup (h .kind) e)
+found-calm m h reading see (At i) e = hold-calm m h reading i (see .slot .hold) e
+
+pub easy-calm : (m : List ℕ) (h : Header) (reading : ℕ) (see : Sight) → easy (h .kind) ≡ true → CalmDeed (decide m h reading see)
+easy-calm m h reading see e = found-calm m h reading see (see .call) e
