@@ -5,6 +5,7 @@ pub mod compose;
 pub mod controller;
 pub mod decode;
 pub mod exchange;
+pub mod generate;
 pub mod line;
 pub mod messages;
 pub mod rows;
