@@ -160,6 +160,11 @@ impl<'a> Walk<'a> {
             ended: false,
         }
     }
+
+    /// How many octets the walk has not taken.
+    pub fn left(&self) -> usize {
+        self.rest.len()
+    }
 }
 
 impl<'a> Iterator for Walk<'a> {
@@ -512,7 +517,7 @@ pub fn offer_fault(body: &[u8]) -> Option<OfferFault> {
 fn is_whole(body: &[u8]) -> bool {
     let mut walk = Walk::new(body);
     walk.by_ref().for_each(drop);
-    walk.rest.is_empty()
+    walk.left() == 0
 }
 
 /// How many elements have this identifier.

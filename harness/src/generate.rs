@@ -25,6 +25,8 @@ pub struct Generator {
     plan: Plan,
     /// The lines before the next plan.
     left: u64,
+    /// The start behind a comment that names its plan.
+    waiting: Option<String>,
 }
 
 impl Generator {
@@ -36,6 +38,7 @@ impl Generator {
             exchange: Exchange::default(),
             plan,
             left: 5,
+            waiting: None,
         }
     }
 
@@ -47,6 +50,9 @@ impl Generator {
     }
 
     fn draw(&mut self) -> Vec<u8> {
+        if let Some(start) = self.waiting.take() {
+            return start.into_bytes();
+        }
         if self.left == 0 {
             return self.next_plan().into_bytes();
         }
@@ -69,15 +75,17 @@ impl Generator {
         }
     }
 
-    /// A start, now and then a refused one with some lines behind it.
+    /// A plan and its start, or a refused start with some lines behind it.
     fn next_plan(&mut self) -> String {
-        if self.random.chance(25) {
+        if self.random.chance(50) {
             self.left = self.random.within(0, 3);
             return starts::line(&starts::bad(&mut self.random));
         }
         self.plan = Plan::draw(&mut self.random);
-        self.left = self.random.within(20, 900);
-        starts::line(&starts::good(&mut self.random, self.plan.supply))
+        self.left = self.random.within(20, 700);
+        let lists = starts::good(&mut self.random, self.plan.supply);
+        self.waiting = Some(starts::line(&lists));
+        format!("# {}", self.plan.name)
     }
 
     fn message_line(&mut self, message: fn(&mut Generator) -> Vec<u8>) -> Vec<u8> {

@@ -3,7 +3,7 @@
 use super::elements::{self, any_id, disturb, four, insert, readable, unreadable};
 use super::Generator;
 use crate::compose::{element, header, FLAG};
-use crate::controller::{Reference, State};
+use crate::controller::{Reference, State, Table};
 use crate::decode::{CALL_STATE, CAUSE, CONNECTION, HEADER};
 use crate::types::*;
 
@@ -66,7 +66,7 @@ impl Generator {
         loop {
             let value = self.random.within(1, 80) as u32;
             let reference = Reference { flag, value };
-            let live = |table: &_| crate::controller::Table::find(table, reference).is_some();
+            let live = |table: &Table| table.find(reference).is_some();
             if !self.table().is_some_and(live) {
                 return reference.received();
             }
@@ -111,8 +111,9 @@ impl Generator {
             self.kind_in(call.state)
         };
         let mut elements = self.elements_of(kind);
-        if kind == STATUS && !clearing && self.random.chance(80) {
+        if kind == STATUS && self.random.chance(80) {
             let state = self.random.pick(&[1, 3, 6, 9, 10, 12, 63, 64]);
+            let state = if clearing { 0 } else { state };
             elements = vec![element(CALL_STATE, &[state])];
         }
         let other = if self.random.chance(3) { FLAG } else { 0 };
@@ -139,8 +140,8 @@ impl Generator {
             STATUS,
         ];
         match self.random.below(10) {
-            0..4 => next,
-            4 => self.random.pick(&UNKNOWN),
+            0..5 => next,
+            5 => self.random.pick(&UNKNOWN),
             _ => self.random.pick(&quiet),
         }
     }

@@ -38,6 +38,8 @@ pub enum Supply {
     None,
     Scarce,
     Some,
+    /// As many as there are slots.
+    Exact,
     Wide,
 }
 
@@ -66,7 +68,7 @@ const MIXED: Plan = Plan {
     late: false,
 };
 
-const PLANS: [Plan; 9] = [
+const PLANS: [Plan; 11] = [
     MIXED,
     Plan {
         name: "full",
@@ -74,6 +76,22 @@ const PLANS: [Plan; 9] = [
         supply: Supply::Wide,
         clearing: 5,
         disturbed: 10,
+        pace: 30,
+        ..MIXED
+    },
+    Plan {
+        name: "calls",
+        weights: [8, 50, 2, 1, 1, 12, 8, 4, 8, 1, 1],
+        clearing: 15,
+        disturbed: 10,
+        ..MIXED
+    },
+    Plan {
+        name: "as many pairs as slots",
+        weights: [36, 12, 3, 1, 1, 32, 6, 2, 6, 2, 1],
+        supply: Supply::Exact,
+        clearing: 5,
+        disturbed: 8,
         pace: 30,
         ..MIXED
     },

@@ -85,7 +85,7 @@ fn pair_near(table: &Table, draw: u64, held: Option<Pair>, any: Pair) -> Option<
         }),
         17 => Some(Pair {
             vpci: vpci ^ 0x100,
-            vci: range.first,
+            vci: range.first % 64,
         }),
         _ => None,
     }

@@ -12,7 +12,17 @@ pub fn good(random: &mut Random, supply: Supply) -> Lists {
         Supply::None => none(random),
         Supply::Scarce => scarce(random),
         Supply::Some => some(random),
+        Supply::Exact => exact(random),
         Supply::Wide => wide(random),
+    }
+}
+
+/// Thirty-two pairs.
+fn exact(random: &mut Random) -> Lists {
+    match random.below(3) {
+        0 => (vec![0, 32, 63], vec![]),
+        1 => (vec![1, 40, 56, 1, 60, 75], vec![1, 41]),
+        _ => (vec![0, 32, 47, 9, 65_520, 65_535], vec![0, 48, 8, 32]),
     }
 }
 
