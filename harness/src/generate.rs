@@ -77,8 +77,8 @@ impl Generator {
 
     /// A plan and its start, or a refused start with some lines behind it.
     fn next_plan(&mut self) -> String {
-        if self.random.chance(50) {
-            self.left = self.random.within(0, 3);
+        if self.random.chance(70) {
+            self.left = self.random.within(0, 2);
             return starts::line(&starts::bad(&mut self.random));
         }
         self.plan = Plan::draw(&mut self.random);

@@ -28,6 +28,22 @@ pub fn list(rows: &mut Rows) {
             );
         }
     }
+    list_forms(rows);
+    rows.add("CO-N6", "CONNECT in N6");
+    rows.add("CO-N9", "CONNECT in N9");
+    rows.add("CA-user", "CONNECT ACKNOWLEDGE in N10, the user's call");
+    rows.add(
+        "CA-network",
+        "CONNECT ACKNOWLEDGE in N10, the network's call",
+    );
+    for timer in ["T303", "T310", "T308-first", "T308-second"] {
+        let words = format!("a message after the deadline of {timer} acts on the call");
+        rows.add(format!("TD-{timer}"), words);
+    }
+}
+
+/// Cause and Call state, absent, unreadable or readable.
+fn list_forms(rows: &mut Rows) {
     for name in ["absent", "unreadable", "readable"] {
         rows.add(
             format!("RE-1-{name}"),
@@ -46,17 +62,6 @@ pub fn list(rows: &mut Rows) {
     }
     rows.add("SU-5-1-state", "no call and state 1: 101");
     rows.add("SU-5-63-state", "no call and state 63: 101");
-    rows.add("CO-N6", "CONNECT in N6");
-    rows.add("CO-N9", "CONNECT in N9");
-    rows.add("CA-user", "CONNECT ACKNOWLEDGE in N10, the user's call");
-    rows.add(
-        "CA-network",
-        "CONNECT ACKNOWLEDGE in N10, the network's call",
-    );
-    for timer in ["T303", "T310", "T308-first", "T308-second"] {
-        let words = format!("a message after the deadline of {timer} acts on the call");
-        rows.add(format!("TD-{timer}"), words);
-    }
 }
 
 fn form<T>(part: &Part<T>) -> &'static str {

@@ -37,8 +37,7 @@ pub fn list(rows: &mut Rows) {
 }
 
 pub fn hit(rows: &mut Rows, seen: &Seen<'_>) {
-    let (Event::Tick(request), Some(before), Some(after)) = (seen.event, seen.before, seen.after)
-    else {
+    let (Event::Tick(request), Some(before)) = (seen.event, seen.before) else {
         return;
     };
     let running: Vec<(u64, usize, Call)> = before
@@ -46,9 +45,9 @@ pub fn hit(rows: &mut Rows, seen: &Seen<'_>) {
         .filter_map(|(slot, call)| Some((call.state.deadline()?, slot, call)))
         .collect();
     let due = running.iter().filter(|timer| timer.0 <= request.reading);
-    let first = due.clone().min_by_key(|timer| (timer.0, timer.1));
-    rows.hit_if(!seen.accepted() && first.is_some(), "TI-refused");
+    let due: Vec<(u64, usize, Call)> = due.copied().collect();
     if !seen.accepted() {
+        rows.hit_if(!due.is_empty(), "TI-refused");
         return;
     }
     rows.hit_if(running.is_empty(), "TI-idle");
@@ -57,24 +56,26 @@ pub fn hit(rows: &mut Rows, seen: &Seen<'_>) {
         rows.hit_if(before, &format!("TI-{}-before", timer(call.state)));
         rows.hit_if(*deadline > READING_LIMIT, "TI-past");
     }
-    if let Some(&(deadline, slot, call)) = first {
-        let when = if deadline == request.reading {
-            "at"
-        } else {
-            "late"
-        };
-        rows.hit(&format!("TI-{}-{when}", timer(call.state)));
-        rows.hit_if(
-            due.clone()
-                .any(|other| other.0 == deadline && other.1 > slot),
-            "TI-tie",
-        );
-        rows.hit_if(due.clone().any(|other| other.1 < slot), "TI-order");
-        rows.hit_if(seen.answer.more, "TI-more");
-        rows.hit_if(!seen.answer.more, "TI-last");
-        let again = seen.row() == Row::T308First && after.calls[slot].is_some();
-        let cause = seen.answer.reply.get(14).copied();
-        rows.hit_if(again && cause == Some(102 + 0x80), "TI-102");
-        rows.hit_if(again && cause != Some(102 + 0x80), "TI-host");
+    hit_fired(rows, seen, request.reading, &due);
+}
+
+/// The timer that a tick fires.
+fn hit_fired(rows: &mut Rows, seen: &Seen<'_>, reading: u64, due: &[(u64, usize, Call)]) {
+    let first = due.iter().min_by_key(|timer| (timer.0, timer.1));
+    let Some(&(deadline, slot, call)) = first else {
+        return;
+    };
+    let when = if deadline == reading { "at" } else { "late" };
+    rows.hit(&format!("TI-{}-{when}", timer(call.state)));
+    let tie = due
+        .iter()
+        .any(|other| other.0 == deadline && other.1 > slot);
+    rows.hit_if(tie, "TI-tie");
+    rows.hit_if(due.iter().any(|other| other.1 < slot), "TI-order");
+    rows.hit_if(seen.answer.more, "TI-more");
+    rows.hit_if(!seen.answer.more, "TI-last");
+    if seen.row() == Row::T308First {
+        let own = seen.answer.reply.get(14) == Some(&(102 + 0x80));
+        rows.hit(if own { "TI-102" } else { "TI-host" });
     }
 }

@@ -177,7 +177,7 @@ fn bad_called(random: &mut Random) -> Vec<u8> {
         0 => vec![],
         1 => vec![0x91],
         2 => [&[0x91], [0x39; 16].as_slice()].concat(),
-        3 => vec![0x91, 0x35, random.pick(&[0x2f, 0x3a, 0x00, 0xb5])],
+        3 => vec![0x91, 0x35, random.pick(&[0x2f, 0x3a, 0x3a, 0xb5])],
         4 => [&[0x82], vec![0x47; random.pick(&[0, 19, 21])].as_slice()].concat(),
         _ => vec![random.pick(&[0x11, 0x81, 0x92, 0x00]), 0x35],
     }

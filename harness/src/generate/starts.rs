@@ -96,7 +96,7 @@ pub fn bad(random: &mut Random) -> Lists {
         3 => ranges[place] = random.pick(&[256, 65_535]),
         4 => ranges[place + 1] = random.pick(&[31, 0]),
         5 => (ranges[place + 1], ranges[place + 2]) = (41, 40),
-        6 => ranges.extend(random.pick(&[[0, 32, 32], [0, 40, 40], [0, 50, 60]])),
+        6 => ranges.extend(overlapping(random, &ranges)),
         7 => pairs.push(32),
         8 => pairs = (32..41).flat_map(|vci| [0, vci]).collect(),
         9 => pairs.extend([256, 32]),
@@ -110,6 +110,16 @@ pub fn bad(random: &mut Random) -> Lists {
         _ => pairs = vec![32; random.pick(&[1, 17, 18, 63, 64])],
     }
     (ranges, pairs)
+}
+
+/// A range that does not lie behind the last one.
+fn overlapping(random: &mut Random, ranges: &[u16]) -> [u16; 3] {
+    match *ranges {
+        [.., vpci, first, last] => {
+            random.pick(&[[vpci, last, last], [vpci, first, last], [0, 32, 33]])
+        }
+        _ => [0, 32, 31],
+    }
 }
 
 /// The line of a start.
