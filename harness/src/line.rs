@@ -20,7 +20,7 @@ pub fn read_line(line: &[u8]) -> Line {
 }
 
 /// The octets of an even number of hex digits.
-fn octets(digits: &[u8]) -> Option<Vec<u8>> {
+pub fn octets(digits: &[u8]) -> Option<Vec<u8>> {
     let octet = |two: &[u8]| match *two {
         [high, low] => Some(digit(high)? * 16 + digit(low)?),
         _ => None,

@@ -46,11 +46,8 @@ fn add_good(table: &mut Table) {
     let twice = [element(0x79, &[0x80]), element(0x79, &[0x82])].concat();
     offer(table, "good: 79 twice", &[&body, &twice]);
     let hidden = element(0x42, &element(0x5a, &[0x88, 0, 0, 0, 0x20]));
-    offer(
-        table,
-        "good: 5A inside an unknown's contents",
-        &[&hidden, &body],
-    );
+    let purpose = "good: 5A inside an unknown's contents";
+    offer(table, purpose, &[&hidden, &body]);
     let octets = [header(1, SETUP, 3), body].concat();
     table.add('O', "good body, length field wrong", octets);
 }

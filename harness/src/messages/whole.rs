@@ -1,6 +1,7 @@
 //! Group W: whole messages as a user would send them.
 
 use super::*;
+use crate::decode::Pair;
 
 pub fn add(table: &mut Table) {
     add_setups(table);
@@ -12,8 +13,7 @@ pub fn add(table: &mut Table) {
 }
 
 fn pair(vpci: u16, vci: u16) -> Vec<u8> {
-    let ([a, b], [c, d]) = (vpci.to_be_bytes(), vci.to_be_bytes());
-    element(0x5a, &[0x88, a, b, c, d])
+    connection(Pair { vpci, vci })
 }
 
 fn add_setups(table: &mut Table) {

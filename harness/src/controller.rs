@@ -1,0 +1,179 @@
+//! The call controller: the table of calls and what each event does to it.
+
+mod call;
+mod host;
+mod message;
+mod pool;
+mod restart;
+mod setup;
+mod timer;
+mod write;
+
+pub use call::{Call, Clearing, Reference, State};
+pub use host::HOST_CAUSES;
+pub use pool::{Pool, Range};
+pub use timer::{T303, T308, T310};
+
+use crate::decode::Pair;
+use crate::rows::Row;
+
+pub const SLOTS: usize = 32;
+
+/// The smallest reply room.
+pub const ROOM: usize = 1_024;
+
+/// The largest reading.
+pub const READING_LIMIT: u64 = 4_000_000_000_000;
+
+/// The longest message.
+pub const MESSAGE_LIMIT: usize = 1_024;
+
+/// What every event but start carries.
+#[derive(Clone, Copy, Debug, PartialEq, Eq)]
+pub struct Request {
+    pub label: u64,
+    pub reading: u64,
+    /// The length of the reply room.
+    pub room: usize,
+}
+
+#[derive(Clone, Copy, Debug, PartialEq, Eq)]
+pub enum Notice {
+    None,
+    Asked,
+    Answered,
+    Gone,
+}
+
+/// Thirty-two flags, one for each slot.
+#[derive(Clone, Copy, Debug, Default, PartialEq, Eq)]
+pub struct Flags(u32);
+
+impl Flags {
+    fn one(slot: usize) -> Flags {
+        Flags(1 << slot)
+    }
+
+    /// The slots whose flag is set, ascending.
+    pub fn slots(self) -> impl Iterator<Item = usize> {
+        (0..SLOTS).filter(move |slot| self.0 >> slot & 1 == 1)
+    }
+}
+
+/// The answer to an event, with the row that decided it.
+#[derive(Clone, Debug, PartialEq, Eq)]
+pub struct Answer {
+    pub row: Row,
+    pub reply: Vec<u8>,
+    pub notice: Notice,
+    pub flags: Flags,
+    /// For a tick, whether another timer is due.
+    pub more: bool,
+}
+
+impl Answer {
+    /// No reply, notice 0.
+    pub fn nothing(row: Row) -> Answer {
+        Answer::reply(row, Vec::new())
+    }
+
+    /// A reply, notice 0.
+    fn reply(row: Row, reply: Vec<u8>) -> Answer {
+        Answer {
+            row,
+            reply,
+            notice: Notice::None,
+            flags: Flags::default(),
+            more: false,
+        }
+    }
+
+    fn notice(self, notice: Notice, flags: Flags) -> Answer {
+        Answer {
+            notice,
+            flags,
+            ..self
+        }
+    }
+}
+
+/// The table of calls on one interface.
+#[derive(Clone, Debug, PartialEq, Eq)]
+pub struct Table {
+    pub calls: [Option<Call>; SLOTS],
+    /// The last accepted reading.
+    pub reading: u64,
+    pub pool: Pool,
+}
+
+impl Table {
+    /// A fresh table from the two lists, or why they are refused.
+    pub fn start(ranges: &[u16], pairs: &[u16]) -> Result<Table, Row> {
+        Ok(Table {
+            calls: [None; SLOTS],
+            reading: 0,
+            pool: Pool::new(ranges, pairs)?,
+        })
+    }
+
+    pub fn message(&mut self, request: &Request, octets: &[u8]) -> Answer {
+        let checked = self.check(request).and_then(|()| {
+            let fits = (1..=MESSAGE_LIMIT).contains(&octets.len());
+            hold(fits, Row::MessageLength)
+        });
+        match checked {
+            Ok(()) => {
+                self.reading = request.reading;
+                self.receive(octets)
+            }
+            Err(row) => Answer::nothing(row),
+        }
+    }
+
+    /// Refusals 1 to 4.
+    fn check(&self, request: &Request) -> Result<(), Row> {
+        hold(request.room >= ROOM, Row::Room)?;
+        hold(request.label == 1, Row::Label)?;
+        hold(request.reading <= READING_LIMIT, Row::ReadingLarge)?;
+        hold(request.reading >= self.reading, Row::ReadingBack)
+    }
+
+    /// The slot of the live call with this reference.
+    pub fn find(&self, reference: Reference) -> Option<usize> {
+        let named = |call: &Option<Call>| call.is_some_and(|call| call.reference == reference);
+        self.calls.iter().position(named)
+    }
+
+    /// The live calls with their slots.
+    pub fn live(&self) -> impl Iterator<Item = (usize, Call)> + '_ {
+        let calls = self.calls.iter().enumerate();
+        calls.filter_map(|(slot, call)| Some((slot, (*call)?)))
+    }
+
+    pub fn empty_slot(&self) -> Option<usize> {
+        self.calls.iter().position(Option::is_none)
+    }
+
+    /// The lowest permitted pair that no live call holds.
+    pub fn free_pair(&self) -> Option<Pair> {
+        let held = |pair: Pair| self.live().any(|(_, call)| call.pair == pair);
+        self.pool.permitted().find(|&pair| !held(pair))
+    }
+
+    /// Empties slots and says so.
+    fn gone(&mut self, row: Row, flags: Flags) -> Answer {
+        for slot in flags.slots() {
+            self.calls[slot] = None;
+        }
+        Answer::nothing(row).notice(Notice::Gone, flags)
+    }
+}
+
+/// The row if a rule does not hold.
+fn hold(holds: bool, row: Row) -> Result<(), Row> {
+    if holds {
+        Ok(())
+    } else {
+        Err(row)
+    }
+}

@@ -1,0 +1,59 @@
+//! Timers and the tick that fires them.
+
+use super::write::cleared;
+use super::{Answer, Call, Clearing, Flags, Request, State, Table};
+use crate::rows::Row;
+use crate::types::RELEASE;
+
+/// How long the timers run, in milliseconds.
+pub const T303: u64 = 4_000;
+pub const T308: u64 = 30_000;
+pub const T310: u64 = 10_000;
+
+impl Table {
+    pub fn tick(&mut self, request: &Request) -> Answer {
+        if let Err(row) = self.check(request) {
+            return Answer::nothing(row);
+        }
+        self.reading = request.reading;
+        let Some((slot, call)) = self.due() else {
+            return Answer::nothing(Row::TickNone);
+        };
+        let answer = self.fire(slot, call);
+        Answer {
+            more: self.due().is_some(),
+            ..answer
+        }
+    }
+
+    /// The due timer with the smallest deadline, then the lowest slot.
+    fn due(&self) -> Option<(usize, Call)> {
+        let deadline = |call: &Call| call.state.deadline().unwrap_or(u64::MAX);
+        let running = self.live().min_by_key(|(_, call)| deadline(call));
+        running.filter(|(_, call)| deadline(call) <= self.reading)
+    }
+
+    fn fire(&mut self, slot: usize, call: Call) -> Answer {
+        match call.state {
+            State::N9 { .. } => {
+                let reply = self.clear_call(slot, call, 102, b"310");
+                Answer::reply(Row::T310, reply)
+            }
+            State::N12(clearing) if !clearing.second => self.repeat(slot, call, clearing),
+            State::N12(_) => self.gone(Row::T308Second, Flags::one(slot)),
+            _ => self.gone(Row::T303, Flags::one(slot)),
+        }
+    }
+
+    /// The first T308: RELEASE as before, and T308 again.
+    fn repeat(&mut self, slot: usize, call: Call, clearing: Clearing) -> Answer {
+        let state = State::N12(Clearing {
+            deadline: self.reading + T308,
+            second: true,
+            ..clearing
+        });
+        self.enter(slot, call, state);
+        let reply = cleared(call.reference, RELEASE, clearing.cause, clearing.diagnostic);
+        Answer::reply(Row::T308First, reply)
+    }
+}

@@ -1,0 +1,127 @@
+//! The line protocol.
+
+use harness::exchange::{next_line, Exchange, LINE_LIMIT};
+
+/// The answers to a script, one on a line.
+fn run(script: &[u8]) -> String {
+    let mut exchange = Exchange::default();
+    let (mut input, mut line) = (script, Vec::new());
+    let mut answers = Vec::new();
+    while next_line(&mut input, &mut line).expect("octets in memory") {
+        answers.push(exchange.take(&line).to_string());
+    }
+    answers.join("|")
+}
+
+const START: &str = "start 3 0 32 33 0";
+
+/// The answer to a line behind a start.
+fn behind(line: &str) -> String {
+    let answers = run(format!("{START}\n{line}").as_bytes());
+    answers.replacen("0 - 0 - 0|", "", 1)
+}
+
+#[test]
+fn skipped() {
+    assert_eq!(run(b""), "");
+    assert_eq!(run(b"\n#\n# a\n"), "||");
+    let comment = "#".repeat(LINE_LIMIT + 9);
+    assert_eq!(
+        run(format!("{comment}\ntick 1 0 0").as_bytes()),
+        "|no table"
+    );
+}
+
+#[test]
+fn starts() {
+    assert_eq!(run(b"start 3 0 32 33 0"), "0 - 0 - 0");
+    let two = "start 6 0 32 33 1 32 40 2 0 35";
+    assert_eq!(run(two.as_bytes()), "0 - 0 - 0");
+    assert_eq!(run(b"start 0 0"), "9 - 0 - 0");
+    let refused = b"start 3 0 32 33 0\nstart 1 0 0\ntick 1 0 1024";
+    assert_eq!(run(refused), "0 - 0 - 0|9 - 0 - 0|no table");
+    let list = format!("start 64{} 0", " 1".repeat(64));
+    assert_eq!(run(list.as_bytes()), "9 - 0 - 0");
+    let list = format!("start 65{} 0", " 1".repeat(65));
+    assert_eq!(run(list.as_bytes()), "bad line");
+}
+
+#[test]
+fn bad_starts() {
+    for line in [
+        "start",
+        "start 3 0 32 33",
+        "start 3 0 32 33 1",
+        "start 2 0 32 33 0",
+        "start 4 0 32 33 0",
+        "start 3 0 32 65536 0",
+        "start 3 0 32 33 2 0 65536",
+        "start 3 0 32 33 -",
+        "start 3 0 32 +33 0",
+        "Start 3 0 32 33 0",
+    ] {
+        assert_eq!(run(line.as_bytes()), "bad line", "{line}");
+    }
+}
+
+#[test]
+fn bad_lines() {
+    for line in [
+        "hold",
+        "tick",
+        "tick 1 0",
+        "tick 1 0 1024 0",
+        " tick 1 0 1024",
+        "tick 1 0 1024 ",
+        "tick  1 0 1024",
+        "tick 1\t0 1024",
+        "tick 1 0 1024\r",
+        "tick -1 0 1024",
+        "tick 1 - 1024",
+        "tick 1 0x0 1024",
+        "tick 18446744073709551616 0 1024",
+        "tick 99999999999999999999999 0 1024",
+        "connect 1 0 1024",
+        "clear 1 0 1024 0",
+        "message 1 0 1024",
+        "message 1 0 1024 0",
+        "message 1 0 1024 0g",
+        "message 1 0 1024 --",
+        "offer 1 0 1024 090",
+    ] {
+        assert_eq!(run(line.as_bytes()), "bad line", "{line}");
+        assert_eq!(behind(line), "bad line", "{line}");
+    }
+}
+
+#[test]
+fn numbers() {
+    let largest = u64::MAX;
+    assert_eq!(behind(&format!("tick 01 {largest} 1024")), "3 - 0 - 0");
+    assert_eq!(behind(&format!("tick {largest} 0 1024")), "2 - 0 - 0");
+    assert_eq!(behind(&format!("tick 1 0 {largest}")), "0 - 0 - 0");
+    assert_eq!(behind(&format!("connect 1 0 1024 {largest}")), "6 - 0 - 0");
+    assert_eq!(behind("connect 1 0 1024 4294967296"), "6 - 0 - 0");
+    assert_eq!(behind("tick 0001 0000 001024"), "0 - 0 - 0");
+    let zeros = "0".repeat(1_000);
+    assert_eq!(behind(&format!("tick {zeros}1 0 1024")), "0 - 0 - 0");
+}
+
+#[test]
+fn octets() {
+    let message = |number: usize| format!("message 1 0 1024 {}", "09".repeat(number));
+    assert_eq!(behind(&message(1_024)), "0 - 0 - 0");
+    assert_eq!(behind(&message(1_025)), "5 - 0 - 0");
+    assert_eq!(behind(&message(4_096)), "5 - 0 - 0");
+    assert_eq!(behind(&message(4_097)), "bad line");
+    assert_eq!(behind("message 1 0 1024 -"), "5 - 0 - 0");
+    assert_eq!(behind("offer 1 0 1024 -"), "10 - 0 - 0");
+    let mixed = behind("message 1 0 1024 0903aBcDeF75800000");
+    assert_eq!(mixed, behind("message 1 0 1024 0903ABCDEF75800000"));
+}
+
+#[test]
+fn long_line() {
+    let script = format!("tick {}1 0 1024\n{START}\n", "0".repeat(LINE_LIMIT));
+    assert_eq!(run(script.as_bytes()), "bad line|0 - 0 - 0");
+}
