@@ -32,11 +32,18 @@ effectReply e = replyOctets (e .flag) (e .reference) (e .reply)
 abbrev pub stored : Table → ℕ → Effect → Table
 stored t reading e = record { slots = e .slots; last = reading; pool = t .pool }
 
-abbrev pub sending : Table → ℕ → Effect → Bool → List ℕ → Outcome
-sending t reading e more octets = record {
-  answer = record { table = stored t reading e; refusal = 0; length = length octets; notice = e .notice; flags = e .flags; more = more };
-  reply = octets;
+abbrev pub settled : Table → ℕ → Effect → Bool → ℕ → Answer
+settled t reading e more size = record {
+  table = stored t reading e;
+  refusal = 0;
+  length = size;
+  notice = e .notice;
+  flags = e .flags;
+  more = more;
 }
+
+abbrev pub sending : Table → ℕ → Effect → Bool → List ℕ → Outcome
+sending t reading e more octets = record { answer = settled t reading e more (length octets); reply = octets }
 
 abbrev pub acceptedAs : Table → ℕ → Effect → Outcome
 acceptedAs t reading e = sending t reading e false (effectReply e)

@@ -28,7 +28,7 @@ ghost use Rattle.octets.specs.Octets.{front, Fills};
 ghost use Rattle.header.specs.Header.{headOf};
 ghost use Rattle.contents.specs.Traffic.{member};
 ghost use Rattle.control.specs.Refusals.{orElse, commonRefusal, sizeRefusal, messageRefusal, holdAt, Within, notN3, unconnectable, connectRefusal, inN12, unclearable, hostCauses, causeRefusal, clearRefusal, bodyRefusal};
-ghost use Rattle.control.specs.Outcome.{refusedWith, effectReply, sending};
+ghost use Rattle.control.specs.Outcome.{refusedWith, effectReply, settled, sending};
 ghost use Rattle.control.specs.Events.{startOf, heardBy, messageOf, tickOf, connected, connectOf, cleared, clearOf, offeredOn, offered, offerOf};
 
 // What an event answers, with the table afterwards. `more`: after a tick, whether another timer is due.
@@ -115,17 +115,13 @@ fn refuse(table: Table, number: u8) -> Answer
     }
 }
 
-// An accepted event: its reading is stored, and its reply written.
-fn accept(table: Table, reading: u64, effect: Effect, more: bool, room: &mut [u8]) -> Answer
-    requires { ⌜ 1024 ≤ length (now room) ⌝ }
-    ensures { λ r. ⌜ (r ≡ sending table reading effect more (effectReply effect) .answer)
-        × (now (room .exit) ≡ front (effectReply effect) (now (room .entry))) ⌝ }
+// An accepted event with a reply of so many octets: its reading is stored.
+fn settle(table: Table, reading: u64, effect: Effect, more: bool, size: usize) -> Answer
+    ensures { λ r. ⌜ r ≡ settled table reading effect more size ⌝ }
 {
     let slots = effect.slots;
     let flags = effect.flags;
     let pool = table.pool;
-    let reply = effect.reply;
-    let n = replies::write(room, effect.flag, effect.reference, reply);
     let next = Table {
         slots: slots,
         last: reading,
@@ -134,11 +130,22 @@ fn accept(table: Table, reading: u64, effect: Effect, more: bool, room: &mut [u8
     Answer {
         table: next,
         refusal: 0,
-        length: n,
+        length: size,
         notice: effect.notice,
         flags: flags,
         more: more,
     }
+}
+
+// An accepted event: its reply is written.
+fn accept(table: Table, reading: u64, effect: Effect, more: bool, room: &mut [u8]) -> Answer
+    requires { ⌜ 1024 ≤ length (now room) ⌝ }
+    ensures { λ r. ⌜ (r ≡ sending table reading effect more (effectReply effect) .answer)
+        × (now (room .exit) ≡ front (effectReply effect) (now (room .entry))) ⌝ }
+{
+    let reply = effect.reply;
+    let n = replies::write(room, effect.flag, effect.reference, reply);
+    settle(table, reading, effect, more, n)
 }
 
 // Starts with permitted ranges, three numbers for each, and permanent pairs, two for each.
@@ -204,8 +211,8 @@ pub fn tick(table: Table, label: u64, reading: u64, room: &mut [u8]) -> Answer
         return refuse(table, n);
     }
     let effect = table.fire(reading);
-    let slots = effect.slots;
-    let more = slots.some_due(reading);
+    let after = effect.slots;
+    let more = after.some_due(reading);
     accept(table, reading, effect, more, room)
 }
 
@@ -371,7 +378,6 @@ fn send_setup(
         × (now (room .exit) ≡ front (offeredOn table reading (now (body .entry)) i (Channel.Pair vpci vci) .reply) (now (room .entry))) ⌝ }
 {
     let slots = table.slots;
-    let pool = table.pool;
     let reference = slots.unused_reference();
     let call = Call {
         network: true,
@@ -382,21 +388,7 @@ fn send_setup(
     };
     let effect = effects::assign(slots, i, false, reference, call, Reply::None);
     let n = replies::write_setup(room, reference, vpci, vci, body);
-    let taken = effect.slots;
-    let flags = effect.flags;
-    let next = Table {
-        slots: taken,
-        last: reading,
-        pool: pool,
-    };
-    Answer {
-        table: next,
-        refusal: 0,
-        length: n,
-        notice: effect.notice,
-        flags: flags,
-        more: false,
-    }
+    settle(table, reading, effect, false, n)
 }
 
 // The host offers a call to the user.

@@ -8,8 +8,8 @@ use Rattle.control.proofs.send_setup.Tie as tie
 unused-reference-requires : tie.Need-unused-reference-requires
 unused-reference-requires c κs = search needs
 
-add-t17 : tie.Need-add-t17
-add-t17 c = search needs
+add-t13 : tie.Need-add-t13
+add-t13 c = search needs
 
 assign-requires : tie.Need-assign-requires
 assign-requires c κs = search needs
@@ -17,23 +17,26 @@ assign-requires c κs = search needs
 write-setup-requires : tie.Need-write-setup-requires
 write-setup-requires c κs = search needs
 
+settle-requires : tie.Need-settle-requires
+settle-requires c κs = search needs
+
 same-length : tie.Need-same-length
 same-length c = search needs
 
 returns : tie.Need-returns
-returns c = let w = c .before .before .before .before in
-    let a = w .before .before in (
-      rw (a .assign .ensures, w .write-setup .ensures .0, a .before .unused-reference .ensures .0),
-      w .write-setup .ensures .1 ∙ rw (a .before .unused-reference .ensures .0),
-    )
+returns c = let w = c .before .before .before in
+    let a = w .before .before in
+    let r = a .before .unused-reference .ensures .0 in
+    (c .settle .ensures ∙ rw (a .assign .ensures, w .write-setup .ensures .0, r), w .write-setup .ensures .1 ∙ rw r)
 
 pub send-setup-spec : {M : Type 1} → statement M
 send-setup-spec =
     tie.close
     (tie.spec
     unused-reference-requires
-    add-t17
+    add-t13
     assign-requires
     write-setup-requires
+    settle-requires
     same-length
     returns)
