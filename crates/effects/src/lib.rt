@@ -35,7 +35,6 @@ ghost use Rattle.channels.specs.Some.{someOf};
 ghost use Rattle.channels.specs.Channels.{permanent};
 ghost use Rattle.calls.specs.First.{place};
 ghost use Rattle.calls.specs.Calls.{isEmpty};
-ghost use Rattle.judging.specs.Verdict.{because};
 ghost use Rattle.effects.specs.Effect.{turnedHold, fated, flagged, replying, quiet, onSlot, assigned, isSet, goneNotice, afterGone};
 ghost use Rattle.effects.specs.Restart.{restartStatus, pairRestart, restartEffect};
 ghost use Rattle.effects.specs.Effects.{freePair, userCall, onPair, admitted, setupEffect, onNoCall, onHold, addressed, globalEffect, messageEffect, fireHold, fired, tickEffect};
@@ -199,15 +198,6 @@ fn after_gone(gone: Gone, flag: bool, reply: Reply) -> Effect
     }
 }
 
-fn because(number: u8, diagnostic: Diagnostic) -> Cause
-    ensures { λ r. ⌜ r ≡ because number diagnostic ⌝ }
-{
-    Cause {
-        number: number,
-        diagnostic: diagnostic,
-    }
-}
-
 // RESTART with flag 0.
 fn is_restart(head: Header) -> bool
     ensures { λ r. ⌜ r ≡ (eqb (head .kind) 0x46 && not (head .flag)) ⌝ }
@@ -227,7 +217,7 @@ impl Table {
             slots,
             flag,
             0,
-            Reply::Status(0, because(number, diagnostic)),
+            Reply::Status(0, judging::because(number, diagnostic)),
         )
     }
 
@@ -314,7 +304,7 @@ impl Table {
     {
         let slots = self.slots;
         match pair {
-            Channel::None => self.refuse_setup(reference, because(45, Diagnostic::None)),
+            Channel::None => self.refuse_setup(reference, judging::because(45, Diagnostic::None)),
             Channel::Pair(vpci, vci) => {
                 let call = Call {
                     network: false,
@@ -341,7 +331,7 @@ impl Table {
     {
         let slots = self.slots;
         match slots.lowest_empty() {
-            Found::Nothing => self.refuse_setup(reference, because(47, Diagnostic::None)),
+            Found::Nothing => self.refuse_setup(reference, judging::because(47, Diagnostic::None)),
             Found::At(i) => self.set_up_on(reference, i, self.free_pair()),
         }
     }

@@ -1,5 +1,6 @@
 // Judgements: what a message or a firing timer does to the one call that it names, decided from the message and the call's state alone.
 //   Class, Fate, Verdict      what a message is to a call; what becomes of the call; that with the reply and the notice
+//   because                   a cause with its diagnostic
 //   class_of                  the decision over type number and state
 //   judge                     a message on a live call
 //   unanswered                the reply to a message on no call, other than SETUP
@@ -90,7 +91,8 @@ pub fn class_of(kind: u8, phase: Phase) -> Class
     }
 }
 
-fn because(number: u8, diagnostic: Diagnostic) -> Cause
+// A cause with its diagnostic.
+pub fn because(number: u8, diagnostic: Diagnostic) -> Cause
     ensures { λ r. ⌜ r ≡ because number diagnostic ⌝ }
 {
     Cause {

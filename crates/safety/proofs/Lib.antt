@@ -1,0 +1,17 @@
+pub mod Cases
+pub mod Lists
+pub mod Tables
+pub mod SmallTable
+pub mod Refusals
+pub mod FixedAnswers
+pub mod FixedStart
+pub mod Changes
+pub mod Fates
+pub mod Happenings
+pub mod Sound
+pub mod References
+pub mod Cause45
+pub mod NoPair
+pub mod Gone
+pub mod Slips
+pub mod Demands

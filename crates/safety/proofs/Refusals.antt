@@ -1,0 +1,299 @@
+-- The number that an event is refused with applies, and every number that applies reaches it.
+--   commonOf, ownOf, refusalOf      the number, from 1 to 4 and behind them
+--   or-else-zero, or-else-both      of two numbers one after the other
+--   Reaches, Given                  a number that is not 0 and at most k; a number that satisfies P where it is not 0
+--   applied, reaches
+-- Assumes nothing.
+use Prim.Native.Nat.{ℕ, _≤_, _<_}
+use mathlib.Core.Path.{_≡_, refl, sym, ap}
+use mathlib.Core.Logic.{_≢_}
+use mathlib.Core.Bool.{Bool, true, false, cond}
+use mathlib.Core.List.{List, [], _∷_}
+use native.Mathlib.Omega.{arith}
+use lib.Dec.{eqb, ltb}
+use lib.ListN.{length, List·getD-eq-default}
+use borrow.Author.Tests.{eqb-true, eqb-false, ltb-true, ne-eqb, lt-ltb}
+use Rattle.contents.specs.Traffic.{member}
+use Rattle.channels.specs.declared.Channel.{Channel}
+use Rattle.channels.specs.declared.Channel.the-variants as channel
+use Rattle.channels.proofs.Cases.{by-test}
+use Rattle.calls.specs.declared.Phase.{Phase}
+use Rattle.calls.specs.declared.Phase.the-variants.{N3, N6, N9, N10, N12}
+use Rattle.calls.specs.declared.Call.{Call}
+use Rattle.calls.specs.declared.Hold.{Hold}
+use Rattle.calls.specs.declared.Hold.the-variants.{Empty, Live}
+use Rattle.calls.specs.declared.Slot.{Slot}
+use Rattle.calls.specs.declared.Found.{Found}
+use Rattle.calls.specs.declared.Found.the-variants.{Nothing, At}
+use Rattle.calls.specs.First.{place}
+use Rattle.calls.specs.Calls.{noSlot, isEmpty}
+use Rattle.setup.specs.Offer.{offerFits}
+use Rattle.effects.specs.declared.Table.{Table}
+use Rattle.effects.specs.Effect.{slotCount}
+use Rattle.effects.specs.Effects.{freePair}
+use Rattle.control.specs.Refusals.{orElse, lastReading, commonRefusal, sizeRefusal, holdAt, notN3, unconnectable, inN12, unclearable, hostCauses, causeRefusal, bodyRefusal, slotRefusal, pairRefusal}
+use Rattle.control.specs.Reached.{Event, message, tick, connect, clear, offer}
+use Rattle.safety.specs.Tables.{HasSlots, slotAt}
+use Rattle.safety.specs.FixedAnswers.{labelOf, readingOf, roomOf, Applies, small-room, wrong-label, too-large, too-early, empty-message, long-message, connect-no-slot, connect-empty, clear-no-slot, clear-empty, not-in-N3, in-N12, foreign-cause, long-body, unfit-body, no-empty-slot, no-free-pair}
+use Rattle.safety.proofs.Tables.{none-free, free-none, none-empty, empty-none}
+
+abbrev pub commonOf : Table → Event → ℕ
+commonOf t e = commonRefusal t (labelOf e) (readingOf e) (roomOf e)
+
+-- what is asked of an event behind 1 to 4
+abbrev pub ownOf : Table → Event → ℕ
+ownOf t (message label reading room octets) = sizeRefusal octets
+ownOf t (tick label reading room) = 0
+ownOf t (connect label reading room slot) = unconnectable (holdAt t slot)
+ownOf t (clear label reading room slot cause) = orElse (unclearable (holdAt t slot)) (causeRefusal cause)
+ownOf t (offer label reading room body) = orElse (bodyRefusal body) (orElse (slotRefusal (place isEmpty (t .slots .all))) (pairRefusal (freePair t)))
+
+abbrev pub refusalOf : Table → Event → ℕ
+refusalOf t e = orElse (commonOf t e) (ownOf t e)
+
+-- Numbers.
+
+pub or-else-zero : (n : ℕ) → orElse n 0 ≡ n
+or-else-zero n = by-test (eqb n 0) (λ e. rw e (sym (eqb-true n 0 e))) (λ e. rw e)
+
+pub or-else-both : (n m : ℕ) → orElse n m ≡ 0 → (n ≡ 0) × (m ≡ 0)
+or-else-both n m h =
+    by-test (eqb n 0)
+    (λ e. (eqb-true n 0 e, rw e at h))
+    (λ e. absurd (eqb-false n 0 e (rw e at h)))
+
+-- a number that is given and is not above k
+abbrev pub Reaches : ℕ → ℕ → Type 0
+Reaches k n = (1 ≤ n) × (n ≤ k)
+
+reaches-first : (k n m : ℕ) → Reaches k n → Reaches k (orElse n m)
+reaches-first k n m r = rw (ne-eqb n 0 (λ e. omega arith)) r
+
+reaches-next : (k n m : ℕ) → n ≤ k → Reaches k m → Reaches k (orElse n m)
+reaches-next k n m h r = by-test (eqb n 0) (λ e. rw e r) (λ e. rw e (omega (arith, eqb-false n 0 e), h))
+
+-- a number that is given satisfies P
+abbrev Given : (ℕ → Type 0) → ℕ → Type 0
+Given P n = n ≢ 0 → P n
+
+given-or-else : (P : ℕ → Type 0) (n m : ℕ) → Given P n → Given P m → Given P (orElse n m)
+given-or-else P n m f g = by-test (eqb n 0) (λ e. rw e g) (λ e. rw e f)
+
+given-test : (P : ℕ → Type 0) (b : Bool) (n : ℕ) → (b ≡ true → P n) → Given P (cond b n 0)
+given-test P b n f = by-test b (λ e. rw e (λ h. f e)) (λ e. rw e (λ h. absurd (h refl)))
+
+-- 1 to 4.
+
+module _ (t : Table) (e : Event) where
+  common-applied : Given (Applies t e) (commonOf t e)
+  common-applied =
+      by-test (ltb (roomOf e) 1024)
+      (λ a. rw a (λ h. small-room e (ltb-true _ _ a)))
+      (λ a. by-test (eqb (labelOf e) 1)
+      (λ b. by-test (ltb lastReading (readingOf e))
+      (λ c. rw (a, b, c) (λ h. too-large e (ltb-true _ _ c)))
+      (λ c. rw (a, b, c) (given-test (Applies t e) (ltb (readingOf e) (t .last)) 4 (λ d. too-early e (ltb-true _ _ d)))))
+      (λ b. rw (a, b) (λ h. wrong-label e (eqb-false _ _ b))))
+
+  common-high : commonOf t e ≤ 4
+  common-high =
+      by-test (ltb (roomOf e) 1024)
+      (λ a. rw a (omega arith))
+      (λ a. by-test (eqb (labelOf e) 1)
+      (λ b. by-test (ltb lastReading (readingOf e))
+      (λ c. rw (a, b, c) (omega arith))
+      (λ c. by-test (ltb (readingOf e) (t .last)) (λ d. rw (a, b, c, d) (omega arith)) (λ d. rw (a, b, c, d) (omega arith))))
+      (λ b. rw (a, b) (omega arith)))
+
+  first-reaches : (k : ℕ) → Reaches k (commonOf t e) → Reaches k (refusalOf t e)
+  first-reaches k r = reaches-first k (commonOf t e) (ownOf t e) r
+
+  own-reaches : (k : ℕ) → 4 ≤ k → Reaches k (ownOf t e) → Reaches k (refusalOf t e)
+  own-reaches k h r = reaches-next k (commonOf t e) (ownOf t e) (omega (arith, common-high)) r
+
+  small-room-reaches : roomOf e < 1024 → Reaches 1 (commonOf t e)
+  small-room-reaches h = rw (lt-ltb _ _ h) (omega arith)
+
+  wrong-label-reaches : labelOf e ≢ 1 → Reaches 2 (commonOf t e)
+  wrong-label-reaches h =
+      by-test (ltb (roomOf e) 1024)
+      (λ a. rw a (omega arith))
+      (λ a. rw (a, ne-eqb _ _ h) (omega arith))
+
+  pub too-large-reaches : lastReading < readingOf e → Reaches 3 (commonOf t e)
+  too-large-reaches h =
+      by-test (ltb (roomOf e) 1024)
+      (λ a. rw a (omega arith))
+      (λ a. by-test (eqb (labelOf e) 1)
+      (λ b. rw (a, b, lt-ltb _ _ h) (omega arith))
+      (λ b. rw (a, b) (omega arith)))
+
+  pub too-early-reaches : readingOf e < t .last → Reaches 4 (commonOf t e)
+  too-early-reaches h =
+      by-test (ltb (roomOf e) 1024)
+      (λ a. rw a (omega arith))
+      (λ a. by-test (eqb (labelOf e) 1)
+      (λ b. by-test (ltb lastReading (readingOf e))
+      (λ c. rw (a, b, c) (omega arith))
+      (λ c. rw (a, b, c, lt-ltb _ _ h) (omega arith)))
+      (λ b. rw (a, b) (omega arith)))
+
+-- 5.
+
+length-nothing : {A : Type 0} (xs : List A) → length xs ≡ 0 → xs ≡ []
+length-nothing [] e = refl
+length-nothing (x ∷ xs) e = absurd (omega arith)
+
+size-applied : (t : Table) (label reading room : ℕ) (m : List ℕ) → Given (Applies t (message label reading room m)) (sizeRefusal m)
+size-applied t label reading room m =
+    by-test (eqb (length m) 0)
+    (λ a. rw a (λ h. empty-message label reading room m (length-nothing m (eqb-true _ _ a))))
+    (λ a. rw a (given-test (Applies t (message label reading room m)) (ltb 1024 (length m)) 5 (λ b. long-message label reading room m (ltb-true _ _ b))))
+
+empty-reaches : (m : List ℕ) → m ≡ [] → Reaches 5 (sizeRefusal m)
+empty-reaches m h = rw h (omega arith)
+
+long-reaches : (m : List ℕ) → 1024 < length m → Reaches 5 (sizeRefusal m)
+long-reaches m h = by-test (eqb (length m) 0) (λ a. rw a (omega arith)) (λ a. rw (a, lt-ltb _ _ h) (omega arith))
+
+-- 6 and 7, over what the slot holds.
+
+empty-slot : (s : Slot) → s .hold ≡ Empty → s ≡ noSlot
+empty-slot s e = ap (λ (h : Hold). record { hold = h }) e
+
+module _ (t : Table) (label reading room slot : ℕ) where
+  N3-applied : (c : Call) (phase : Phase) → slotAt t slot .hold ≡ Live c → c .phase ≡ phase → Given (Applies t (connect label reading room slot)) (notN3 phase)
+  N3-applied c N3 h e g = absurd (g refl)
+  N3-applied c (N6 d) h e g = not-in-N3 label reading room slot c h (λ z. let w : _≡_ {A = ℕ} 0 1 = cc in omega arith)
+  N3-applied c (N9 d) h e g = not-in-N3 label reading room slot c h (λ z. let w : _≡_ {A = ℕ} 0 1 = cc in omega arith)
+  N3-applied c N10 h e g = not-in-N3 label reading room slot c h (λ z. let w : _≡_ {A = ℕ} 0 1 = cc in omega arith)
+  N3-applied c (N12 k) h e g = not-in-N3 label reading room slot c h (λ z. let w : _≡_ {A = ℕ} 0 1 = cc in omega arith)
+
+  connect-applied : (k : Hold) → slotAt t slot .hold ≡ k → Given (Applies t (connect label reading room slot)) (unconnectable k)
+  connect-applied Empty h g = connect-empty label reading room slot (empty-slot (slotAt t slot) h)
+  connect-applied (Live c) h g = N3-applied c (c .phase) h refl g
+
+  module _ (cause : ℕ) where
+    N12-applied : (c : Call) (phase : Phase) → slotAt t slot .hold ≡ Live c → c .phase ≡ phase → Given (Applies t (clear label reading room slot cause)) (inN12 phase)
+    N12-applied c N3 h e g = absurd (g refl)
+    N12-applied c (N6 d) h e g = absurd (g refl)
+    N12-applied c (N9 d) h e g = absurd (g refl)
+    N12-applied c N10 h e g = absurd (g refl)
+    N12-applied c (N12 k) h e g = in-N12 label reading room slot cause c k h e
+
+    clear-applied : (k : Hold) → slotAt t slot .hold ≡ k → Given (Applies t (clear label reading room slot cause)) (unclearable k)
+    clear-applied Empty h g = clear-empty label reading room slot cause (empty-slot (slotAt t slot) h)
+    clear-applied (Live c) h g = N12-applied c (c .phase) h refl g
+
+not-N3-reaches : (phase : Phase) → phase ≢ N3 → Reaches 7 (notN3 phase)
+not-N3-reaches N3 h = absurd (h refl)
+not-N3-reaches (N6 d) h = omega arith
+not-N3-reaches (N9 d) h = omega arith
+not-N3-reaches N10 h = omega arith
+not-N3-reaches (N12 k) h = omega arith
+
+in-N12-high : (phase : Phase) → inN12 phase ≤ 7
+in-N12-high N3 = omega arith
+in-N12-high (N6 d) = omega arith
+in-N12-high (N9 d) = omega arith
+in-N12-high N10 = omega arith
+in-N12-high (N12 k) = omega arith
+
+unclearable-high : (h : Hold) → unclearable h ≤ 7
+unclearable-high Empty = omega arith
+unclearable-high (Live c) = in-N12-high (c .phase)
+
+cause-applied : (t : Table) (label reading room slot cause : ℕ) → Given (Applies t (clear label reading room slot cause)) (causeRefusal cause)
+cause-applied t label reading room slot cause =
+    by-test (member cause hostCauses) (λ a. rw a (λ h. absurd (h refl))) (λ a. rw a (λ h. foreign-cause label reading room slot cause a))
+
+-- 10 to 12.
+
+body-applied : (t : Table) (label reading room : ℕ) (body : List ℕ) → Given (Applies t (offer label reading room body)) (bodyRefusal body)
+body-applied t label reading room body =
+    by-test (ltb 512 (length body))
+    (λ a. rw a (λ h. long-body label reading room body (ltb-true _ _ a)))
+    (λ a. by-test (offerFits body) (λ b. rw (a, b) (λ h. absurd (h refl))) (λ b. rw (a, b) (λ h. unfit-body label reading room body b)))
+
+body-high : (body : List ℕ) → bodyRefusal body ≤ 10
+body-high body =
+    by-test (ltb 512 (length body))
+    (λ a. rw a (omega arith))
+    (λ a. by-test (offerFits body) (λ b. rw (a, b) (omega arith)) (λ b. rw (a, b) (omega arith)))
+
+long-body-reaches : (body : List ℕ) → 512 < length body → Reaches 10 (bodyRefusal body)
+long-body-reaches body h = rw (lt-ltb _ _ h) (omega arith)
+
+unfit-body-reaches : (body : List ℕ) → offerFits body ≡ false → Reaches 10 (bodyRefusal body)
+unfit-body-reaches body h = by-test (ltb 512 (length body)) (λ a. rw a (omega arith)) (λ a. rw (a, h) (omega arith))
+
+slot-high : (f : Found) → slotRefusal f ≤ 11
+slot-high Nothing = omega arith
+slot-high (At i) = omega arith
+
+module _ (t : Table) (whole : HasSlots t) (label reading room : ℕ) (body : List ℕ) where
+  slot-applied : (f : Found) → place isEmpty (t .slots .all) ≡ f → Given (Applies t (offer label reading room body)) (slotRefusal f)
+  slot-applied Nothing e h = no-empty-slot label reading room body (none-empty t whole e)
+  slot-applied (At i) e h = absurd (h refl)
+
+  pair-applied : (c : Channel) → freePair t ≡ c → Given (Applies t (offer label reading room body)) (pairRefusal c)
+  pair-applied channel.None e h = no-free-pair label reading room body (none-free t e)
+  pair-applied (channel.Pair p v) e h = absurd (h refl)
+
+-- All events.
+
+own-applied : (t : Table) (e : Event) → HasSlots t → Given (Applies t e) (ownOf t e)
+own-applied t (message label reading room octets) w = size-applied t label reading room octets
+own-applied t (tick label reading room) w = λ h. absurd (h refl)
+own-applied t (connect label reading room slot) w = connect-applied t label reading room slot (holdAt t slot) refl
+own-applied t (clear label reading room slot cause) w =
+    given-or-else (Applies t (clear label reading room slot cause)) (unclearable (holdAt t slot)) (causeRefusal cause)
+    (clear-applied t label reading room slot cause (holdAt t slot) refl)
+    (cause-applied t label reading room slot cause)
+own-applied t (offer label reading room body) w =
+    given-or-else (Applies t (offer label reading room body)) (bodyRefusal body) _
+    (body-applied t label reading room body)
+    (given-or-else (Applies t (offer label reading room body)) (slotRefusal (place isEmpty (t .slots .all))) (pairRefusal (freePair t))
+    (slot-applied t w label reading room body (place isEmpty (t .slots .all)) refl)
+    (pair-applied t w label reading room body (freePair t) refl))
+
+pub applied : (t : Table) (e : Event) → HasSlots t → refusalOf t e ≢ 0 → Applies t e (refusalOf t e)
+applied t e w = given-or-else (Applies t e) (commonOf t e) (ownOf t e) (common-applied t e) (own-applied t e w)
+
+past-slots : (t : Table) (slot : ℕ) → HasSlots t → slotCount ≤ slot → holdAt t slot ≡ Empty
+past-slots t slot w h = ap (λ (s : Slot). s .hold) (List·getD-eq-default (t .slots .all) noSlot {n = slot} (rw w h))
+
+empty-hold : (t : Table) (slot : ℕ) → slotAt t slot ≡ noSlot → holdAt t slot ≡ Empty
+empty-hold t slot h = ap (λ (s : Slot). s .hold) h
+
+pub reaches : (t : Table) (e : Event) (k : ℕ) → HasSlots t → Applies t e k → Reaches k (refusalOf t e)
+reaches t e k w (small-room _ h) = first-reaches t e 1 (small-room-reaches t e h)
+reaches t e k w (wrong-label _ h) = first-reaches t e 2 (wrong-label-reaches t e h)
+reaches t e k w (too-large _ h) = first-reaches t e 3 (too-large-reaches t e h)
+reaches t e k w (too-early _ h) = first-reaches t e 4 (too-early-reaches t e h)
+reaches t e k w (empty-message label reading room m h) = own-reaches t e 5 (omega arith) (empty-reaches m h)
+reaches t e k w (long-message label reading room m h) = own-reaches t e 5 (omega arith) (long-reaches m h)
+reaches t e k w (connect-no-slot label reading room slot h) = own-reaches t e 6 (omega arith) (rw (past-slots t slot w h) (omega arith))
+reaches t e k w (connect-empty label reading room slot h) = own-reaches t e 6 (omega arith) (rw (empty-hold t slot h) (omega arith))
+reaches t e k w (clear-no-slot label reading room slot cause h) =
+    own-reaches t e 6 (omega arith) (reaches-first 6 (unclearable (holdAt t slot)) (causeRefusal cause) (rw (past-slots t slot w h) (omega arith)))
+reaches t e k w (clear-empty label reading room slot cause h) =
+    own-reaches t e 6 (omega arith) (reaches-first 6 (unclearable (holdAt t slot)) (causeRefusal cause) (rw (empty-hold t slot h) (omega arith)))
+reaches t e k w (not-in-N3 label reading room slot c h n) = own-reaches t e 7 (omega arith) (rw h (not-N3-reaches (c .phase) n))
+reaches t e k w (in-N12 label reading room slot cause c j h n) =
+    own-reaches t e 7 (omega arith) (reaches-first 7 (unclearable (holdAt t slot)) (causeRefusal cause) (rw (h, n) (omega arith)))
+reaches t e k w (foreign-cause label reading room slot cause h) =
+    own-reaches t e 8 (omega arith)
+    (reaches-next 8 (unclearable (holdAt t slot)) (causeRefusal cause) (omega (arith, unclearable-high (holdAt t slot))) (rw h (omega arith)))
+reaches t e k w (long-body label reading room body h) =
+    own-reaches t e 10 (omega arith) (reaches-first 10 (bodyRefusal body) _ (long-body-reaches body h))
+reaches t e k w (unfit-body label reading room body h) =
+    own-reaches t e 10 (omega arith) (reaches-first 10 (bodyRefusal body) _ (unfit-body-reaches body h))
+reaches t e k w (no-empty-slot label reading room body h) =
+    own-reaches t e 11 (omega arith)
+    (reaches-next 11 (bodyRefusal body) _ (omega (arith, body-high body))
+    (reaches-first 11 (slotRefusal (place isEmpty (t .slots .all))) (pairRefusal (freePair t)) (rw (empty-none t w h) (omega arith))))
+reaches t e k w (no-free-pair label reading room body h) =
+    own-reaches t e 12 (omega arith)
+    (reaches-next 12 (bodyRefusal body) _ (omega (arith, body-high body))
+    (reaches-next 12 (slotRefusal (place isEmpty (t .slots .all))) (pairRefusal (freePair t)) (omega (arith, slot-high (place isEmpty (t .slots .all)))) (rw (free-none t h) (omega arith))))

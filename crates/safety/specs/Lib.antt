@@ -1,0 +1,7 @@
+pub mod SmallTable
+pub mod Tables
+pub mod FixedAnswers
+pub mod Sound
+pub mod NoPair
+pub mod Slips
+pub mod Demands

@@ -1,0 +1,107 @@
+-- "Slips we have seen" (document 01), each shut out by a statement.
+--   HeldUntilGone, NotHandedOut, ReleasedHolds     "A pair freed when RELEASE is sent, not when the call is gone."
+--   OneSide, SetupIsNew, BothOnes                  "Flag forgotten, so user reference 1 and network reference 1 become one call."
+--   DuplicateIgnored                               "An ignored duplicate SETUP that takes a second pair."
+--   NoStatusForStatus                              "STATUS answered with STATUS."
+--   PermanentStays                                 "A permanent pair cleared by "all"."
+-- Assumes nothing.
+use Prim.Native.Nat.{ℕ}
+use mathlib.Core.Path.{_≡_}
+use mathlib.Core.Logic.{_⊎_, _≢_}
+use mathlib.Core.Bool.{true, false}
+use mathlib.Core.List.{List, [], _∷_}
+use lib.ListN.{getD}
+use Rattle.channels.specs.declared.Channel.the-variants.{Pair}
+use Rattle.channels.specs.Channels.{permanent}
+use Rattle.calls.specs.declared.Call.{Call}
+use Rattle.calls.specs.declared.Slot.{Slot}
+use Rattle.calls.specs.Calls.{moved, noSlot, isCall}
+use Rattle.header.specs.declared.Header.{Header}
+use Rattle.header.specs.declared.Head.the-variants.{Is}
+use Rattle.header.specs.Header.{headerIn, headOf}
+use Rattle.setup.specs.Setup.{admission}
+use Rattle.judging.specs.Judge.{clearing}
+use Rattle.effects.specs.declared.Table.{Table}
+use Rattle.effects.specs.Effects.{freePair, userCall, setupEffect, messageEffect}
+use Rattle.control.specs.Outcome.{Outcome}
+use Rattle.control.specs.Events.{messageOf, clearOf, networkCall}
+use Rattle.control.specs.Reached.{Event, happens}
+use Rattle.safety.specs.Tables.{slotAt, HasCall}
+use Rattle.safety.specs.NoPair.{NoSuchCall}
+use Rattle.safety.specs.SmallTable.{begun, setup, heard, offering, left}
+
+-- "A pair freed when RELEASE is sent, not when the call is gone."
+
+-- c is still in slot i, in some state
+pub record StillThere (u : Table) (i : ℕ) (c : Call) : Type 0 where
+  pub call : Call
+  pub live : HasCall u i call
+  pub network : call .network ≡ c .network
+  pub reference : call .reference ≡ c .reference
+  pub vpci : call .vpci ≡ c .vpci
+  pub vci : call .vci ≡ c .vci
+
+-- ""Gone" empties slot and pair, notice 3."
+pub record Went (o : Outcome) (i : ℕ) : Type 0 where
+  pub empty : slotAt (o .answer .table) i ≡ noSlot
+  pub notice : o .answer .notice ≡ 3
+  pub flag : getD (o .answer .flags .on) i false ≡ true
+
+-- by every event a live call keeps slot, reference and pair, or it is gone and the host is told
+abbrev pub HeldUntilGone : Table → Event → Type 0
+HeldUntilGone t e = (i : ℕ) (c : Call) → HasCall t i c → StillThere (happens t e .answer .table) i c ⊎ Went (happens t e) i
+
+-- the pair of a live call, in N12 as in every other state, is not the one that a new call gets
+abbrev pub NotHandedOut : Table → Type 0
+NotHandedOut t = (i : ℕ) (c : Call) → HasCall t i c → freePair t ≢ Pair (c .vpci) (c .vci)
+
+-- after an accepted clear the call is in N12 in its slot, with its pair
+abbrev pub ReleasedHolds : Table → Type 0
+ReleasedHolds t = (label reading room slot cause : ℕ) (c : Call) → HasCall t slot c → clearOf t label reading room slot cause .answer .refusal ≡ 0
+    → HasCall (clearOf t label reading room slot cause .answer .table) slot (moved c (clearing reading false cause false))
+
+-- "Flag forgotten, so user reference 1 and network reference 1 become one call."
+
+-- no call is both
+abbrev pub OneSide : Type 0
+OneSide = (r : ℕ) (s : Slot) → isCall false r s ≡ true → isCall true r s ≡ false
+
+-- a whole SETUP with flag 0 on no live user-originated call is a new call, whatever network-originated calls have its value
+abbrev pub SetupIsNew : Table → Type 0
+SetupIsNew t = (m : List ℕ) (h : Header) (reading : ℕ) → h .kind ≡ 0x05 → h .flag ≡ false → h .whole ≡ true → h .reference ≢ 0
+    → NoSuchCall t false (h .reference) → messageEffect t m h reading ≡ setupEffect t (h .reference) (admission m 9)
+
+-- an offer, which has network reference 1, and then P1's SETUP, with user reference 1
+pub record BothOnes : Type 0 where
+  pub network-one : HasCall (left (heard (left (offering begun 0)) (setup 1))) 0 (networkCall 0 1 0 32)
+  pub user-one : HasCall (left (heard (left (offering begun 0)) (setup 1))) 1 (userCall 1 0 33)
+  pub reply : heard (left (offering begun 0)) (setup 1) .reply
+      ≡ 0x09 ∷ 0x03 ∷ 0x80 ∷ 0x00 ∷ 0x01 ∷ 0x02 ∷ 0x80 ∷ 0x00 ∷ 0x09 ∷ 0x5A ∷ 0x80 ∷ 0x00 ∷ 0x05 ∷ 0x88 ∷ 0x00 ∷ 0x00 ∷ 0x00 ∷ 0x21 ∷ []
+
+-- "An ignored duplicate SETUP that takes a second pair."
+
+-- slot i holds the live call that a header names
+pub record Names (t : Table) (h : Header) (i : ℕ) (c : Call) : Type 0 where
+  pub live : HasCall t i c
+  pub side : c .network ≡ h .flag
+  pub value : c .reference ≡ h .reference
+  pub not-global : h .reference ≢ 0
+
+-- a SETUP on a live call leaves the slots, and gets no reply and no notice
+pub record Untouched (t : Table) (o : Outcome) : Type 0 where
+  pub slots : o .answer .table .slots .all ≡ t .slots .all
+  pub reply : o .reply ≡ []
+  pub notice : o .answer .notice ≡ 0
+
+abbrev pub DuplicateIgnored : Table → Type 0
+DuplicateIgnored t = (label reading room : ℕ) (m : List ℕ) (i : ℕ) (c : Call) → headOf m ≡ Is (headerIn m) → headerIn m .kind ≡ 0x05
+    → Names t (headerIn m) i c → Untouched t (messageOf t label reading room m)
+
+-- "STATUS answered with STATUS.": octet 6 of a message is its type
+abbrev pub NoStatusForStatus : Table → Type 0
+NoStatusForStatus t = (label reading room : ℕ) (m : List ℕ) → getD m 5 0 ≡ 0x7D → getD (messageOf t label reading room m .reply) 5 0 ≢ 0x7D
+
+-- "A permanent pair cleared by "all".": no live call ever holds one, and no event changes what start permits
+pub record PermanentStays (t : Table) : Type 0 where
+  pub held-by-none : (i : ℕ) (c : Call) → HasCall t i c → permanent (t .pool) (c .vpci) (c .vci) ≡ false
+  pub pool-stays : (e : Event) → happens t e .answer .table .pool ≡ t .pool

@@ -1,0 +1,72 @@
+-- Demand 2: "No two live calls hold one VPCI/VCI pair, every assigned VCI lies in 32 to 65535", and what else is so of every table
+-- that is reached from a fresh start.
+--   PhaseSound      a state with the side that began the call: its deadline, its cause
+--   CallSound       a live call: its pair is permitted, its reference is not the global one
+--   Sound           a table
+--   InOctets, AllInOctets     events whose messages are octets, for the width of a call reference
+-- Assumes nothing.
+use Prim.Native.Nat.{ℕ, _+_, _≤_, _<_}
+use mathlib.Core.Path.{_≡_}
+use mathlib.Core.Logic.{_≢_}
+use mathlib.Core.Bool.{Bool, true, false}
+use mathlib.Core.List.{List, [], _∷_}
+use lib.ListN.{getD}
+use Rattle.contents.specs.Traffic.{member}
+use Rattle.channels.specs.Channels.{permitted}
+use Rattle.calls.specs.declared.Clearing.{Clearing}
+use Rattle.calls.specs.declared.Phase.{Phase}
+use Rattle.calls.specs.declared.Phase.the-variants.{N3, N6, N9, N10, N12}
+use Rattle.calls.specs.declared.Call.{Call}
+use Rattle.effects.specs.declared.Table.{Table}
+use Rattle.control.specs.Refusals.{hostCauses}
+use Rattle.control.specs.Reached.{Event, message, tick, connect, clear, offer}
+use Rattle.safety.specs.Tables.{HasSlots, HasCall}
+
+-- N3 is the user's call, N6 and N9 are the network's. A deadline is not further past the last reading than its timer is long:
+-- "T303 4,000 ms", "T310 10,000", "T308 30,000". N12 has a cause of the host, or the network's call has "102, diagnostic "310""
+pub data PhaseSound (last : ℕ) : Bool → Phase → Type 0 where
+  in-N3 : PhaseSound last false N3
+  in-N6 : (deadline : ℕ) → deadline ≤ last + 4000 → PhaseSound last true (N6 deadline)
+  in-N9 : (deadline : ℕ) → deadline ≤ last + 10000 → PhaseSound last true (N9 deadline)
+  in-N10 : (network : Bool) → PhaseSound last network N10
+  by-host : (network : Bool) (k : Clearing) → k .deadline ≤ last + 30000 → member (k .cause) hostCauses ≡ true → k .expired ≡ false
+      → PhaseSound last network (N12 k)
+  by-timer : (k : Clearing) → k .deadline ≤ last + 30000 → k .cause ≡ 102 → k .expired ≡ true → PhaseSound last true (N12 k)
+
+pub record CallSound (t : Table) (c : Call) : Type 0 where
+  -- "A pair is permitted if it is in a range and not permanent."
+  pub pair-permitted : permitted (t .pool) (c .vpci) (c .vci) ≡ true
+  -- "VPCI 0 to 255; VCI 32 to 65535"
+  pub vpci-high : c .vpci ≤ 255
+  pub vci-low : 32 ≤ c .vci
+  pub vci-high : c .vci ≤ 65535
+  -- "Value 0 is global."
+  pub not-global : c .reference ≢ 0
+  pub phase-sound : PhaseSound (t .last) (c .network) (c .phase)
+
+pub record Sound (t : Table) : Type 0 where
+  pub has-slots : HasSlots t
+  pub last-high : t .last ≤ 4000000000000
+  -- each permitted pair keeps the limits
+  pub numbers : (p v : ℕ) → permitted (t .pool) p v ≡ true → (p ≤ 255) × (32 ≤ v) × (v ≤ 65535)
+  pub calls-sound : (i : ℕ) (c : Call) → HasCall t i c → CallSound t c
+  -- "No two live calls hold one VPCI/VCI pair"
+  pub pair-once : (i j : ℕ) (c d : Call) → HasCall t i c → HasCall t j d → c .vpci ≡ d .vpci → c .vci ≡ d .vci → i ≡ j
+  -- no two live calls have one flagged reference
+  pub reference-once : (i j : ℕ) (c d : Call) → HasCall t i c → HasCall t j d → c .network ≡ d .network → c .reference ≡ d .reference → i ≡ j
+
+-- the numbers of a message are octets
+abbrev pub InOctets : Event → Type 0
+InOctets (message label reading room octets) = (k : ℕ) → getD octets k 0 < 256
+InOctets (tick label reading room) = Unit {0}
+InOctets (connect label reading room slot) = Unit {0}
+InOctets (clear label reading room slot cause) = Unit {0}
+InOctets (offer label reading room body) = Unit {0}
+
+abbrev pub AllInOctets : List Event → Type 0
+AllInOctets [] = Unit {0}
+AllInOctets (e ∷ es) = InOctets e × AllInOctets es
+
+-- "23-bit reference": each live call's
+abbrev pub ReferencesFit : Table → Type 0
+ReferencesFit t = (i : ℕ) (c : Call) → HasCall t i c → c .reference < 8388608

@@ -1,0 +1,48 @@
+-- What the demands say of a table.
+--   HasSlots        it has its slots
+--   slotAt          one slot, empty where the table has none
+--   HasCall         slot i holds the live call c
+--   NoneEmpty       no slot is empty
+--   Holds, NoneFree a live call holds a pair; no permitted pair is free
+-- Assumes nothing.
+use Prim.Native.Nat.{ℕ, _<_}
+use mathlib.Core.Path.{_≡_}
+use mathlib.Core.Bool.{true}
+use lib.ListN.{length, getD}
+use Rattle.channels.specs.Channels.{permitted}
+use Rattle.calls.specs.declared.Call.{Call}
+use Rattle.calls.specs.declared.Hold.the-variants.{Live}
+use Rattle.calls.specs.declared.Slot.{Slot}
+use Rattle.calls.specs.Calls.{noSlot}
+use Rattle.effects.specs.declared.Table.{Table}
+use Rattle.effects.specs.Effect.{slotCount}
+
+-- "The table has the 32 slots of calls"
+abbrev pub HasSlots : Table → Type 0
+HasSlots t = length (t .slots .all) ≡ slotCount
+
+abbrev pub slotAt : Table → ℕ → Slot
+slotAt t i = getD (t .slots .all) i noSlot
+
+abbrev pub HasCall : Table → ℕ → Call → Type 0
+HasCall t i c = slotAt t i .hold ≡ Live c
+
+-- "no empty slot"
+abbrev pub NoneEmpty : Table → Type 0
+NoneEmpty t = (i : ℕ) → i < slotCount → (c : Call) × HasCall t i c
+
+-- the live call c holds the pair of VPCI p and VCI v
+pub record OnPair (p v : ℕ) (c : Call) : Type 0 where
+  pub vpci : c .vpci ≡ p
+  pub vci : c .vci ≡ v
+
+-- some live call holds the pair
+pub record Holds (t : Table) (p v : ℕ) : Type 0 where
+  pub slot : ℕ
+  pub call : Call
+  pub live : HasCall t slot call
+  pub pair : OnPair p v call
+
+-- "no permitted pair free"
+abbrev pub NoneFree : Table → Type 0
+NoneFree t = (p v : ℕ) → permitted (t .pool) p v ≡ true → Holds t p v
