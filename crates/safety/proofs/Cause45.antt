@@ -30,13 +30,13 @@ use Rattle.elements.specs.declared.ConnectionRead.{ConnectionRead}
 use Rattle.elements.specs.declared.ConnectionRead.the-variants as connectionRead
 use Rattle.elements.specs.declared.RestartRead.{RestartRead}
 use Rattle.elements.specs.declared.RestartRead.the-variants as restartRead
-use Rattle.elements.specs.Values.{causeIn, callStateIn, connectionIn, restartIn}
+use Rattle.elements.specs.Values.{causeIn, callStateIn, connectionIn, bearerIn, restartIn}
 use Rattle.replies.specs.declared.Reply.{Reply}
 use Rattle.replies.specs.declared.Reply.the-variants as reply
 use Rattle.replies.specs.Reply.{replyOctets}
 use Rattle.setup.specs.declared.Admission.{Admission}
 use Rattle.setup.specs.declared.Admission.the-variants.{Admitted, Refused}
-use Rattle.setup.specs.Setup.{absent, broken, mandatory, someNamed, multipointIn, allowedIn, admission}
+use Rattle.setup.specs.Setup.{absent, broken, foundIn, chosen, someNamed, isMultipoint, allowedIn, admission}
 use Rattle.judging.specs.declared.Class.{Class}
 use Rattle.judging.specs.declared.Class.the-variants as class
 use Rattle.judging.specs.declared.Kind.{Kind}
@@ -120,9 +120,9 @@ AdmissionNot45 (Refused c) = Not45 (reply.ReleaseCompleteWith c)
 
 pub admission-not-45 : (m : List ℕ) (from : ℕ) → AdmissionNot45 (admission m from)
 admission-not-45 m from =
-    by-cond AdmissionNot45 (someNamed (mandatory absent m from)) _ _ refl
-    (by-cond AdmissionNot45 (someNamed (mandatory broken m from)) _ _ refl
-    (by-cond AdmissionNot45 (multipointIn m from) _ _ refl
+    by-cond AdmissionNot45 (someNamed (chosen absent (foundIn m from))) _ _ refl
+    (by-cond AdmissionNot45 (someNamed (chosen broken (foundIn m from))) _ _ refl
+    (by-cond AdmissionNot45 (isMultipoint (bearerIn m from)) _ _ refl
     (by-cond AdmissionNot45 (allowedIn m from) Admitted _ tt refl)))
 
 complete-not-45 : (r : CauseRead) → Not45 (releaseComplete r)
