@@ -54,7 +54,7 @@ earlier (Timer m e) n d = cond (ltb d e) (Timer n d) (Timer m e)
 
 abbrev pub considered : ℕ → Soonest → ℕ → Due → Soonest
 considered now b n Never = b
-considered now b n (DueAt d) = cond (leb d now) (earlier b n d) b
+considered now b n (DueAt d) = cond (dueBy now (DueAt d)) (earlier b n d) b
 
 abbrev pub soonestFrom : ℕ → Soonest → ℕ → List Slot → Soonest
 soonestFrom now b n [] = b

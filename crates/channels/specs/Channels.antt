@@ -2,7 +2,7 @@
 --   isPair, isEntry, among      if a channel, an entry, or some entry of a list is the pair of VPCI p and VCI v
 --   inRange, inRanges           if a range, or some range of a list, has the pair
 --   permanent, permitted        of a pool
---   taken                       a pair that is not free
+--   taken                       a pair that is not to be assigned
 --   scan, lowest                the lowest pair of a list of ranges that a test does not name as taken
 --   knownVpci                   if a VPCI stands in a range or in a permanent pair
 --   emptyPool                   the pool that permits nothing
@@ -44,7 +44,7 @@ permanent pool p v = among p v (pool .permanents)
 abbrev pub permitted : Pool → ℕ → ℕ → Bool
 permitted pool p v = inRanges p v (pool .ranges) && not (permanent pool p v)
 
--- not free: a live call holds the pair, or it is permanent
+-- not to be assigned: a live call holds the pair, or it is permanent
 abbrev pub taken : List Entry → List Entry → ℕ → ℕ → Bool
 taken held permanents p v = among p v held || among p v permanents
 

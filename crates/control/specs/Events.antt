@@ -78,6 +78,7 @@ clearOf t label reading room slot cause =
 abbrev pub networkCall : ℕ → ℕ → ℕ → ℕ → Call
 networkCall reading r p v = record { network = true; reference = r; vpci = p; vci = v; phase = N6 (reading + 4000) }
 
+-- (no slot and no pair were refused before, with 11 and 12: these two cases are never asked)
 abbrev pub offeredOn : Table → ℕ → List ℕ → ℕ → Channel → Outcome
 offeredOn t reading body i None = refusedWith t 12
 offeredOn t reading body i (Pair p v) =

@@ -28,13 +28,13 @@ abbrev pub orElse : ℕ → ℕ → ℕ
 orElse n next = cond (eqb n 0) next n
 
 -- "3 reading above 4,000,000,000,000"
-abbrev pub lastReading : ℕ
-lastReading = 4000000000000
+abbrev pub largestReading : ℕ
+largestReading = 4000000000000
 
 -- "1 reply room under 1,024 octets; 2 clock label not 1; 3 reading above ..; 4 reading below the last accepted"
 abbrev pub commonRefusal : Table → ℕ → ℕ → ℕ → ℕ
 commonRefusal t label reading room =
-    cond (ltb room 1024) 1 (cond (eqb label 1) (cond (ltb lastReading reading) 3 (cond (ltb reading (t .last)) 4 0)) 2)
+    cond (ltb room 1024) 1 (cond (eqb label 1) (cond (ltb largestReading reading) 3 (cond (ltb reading (t .last)) 4 0)) 2)
 
 -- "5 message empty or over 1,024 octets"
 abbrev pub sizeRefusal : List ℕ → ℕ

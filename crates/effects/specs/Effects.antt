@@ -1,4 +1,4 @@
--- What an accepted message, tick, connect and clear do to the table (steps 3 to 6, and "Host and timers").
+-- What an accepted message and an accepted tick do to the table (steps 3 to 6, and "Host and timers").
 --   userCall               the call that an admitted SETUP makes
 --   admitted, setupEffect  SETUP on no call
 --   globalEffect           a message on the global reference
@@ -29,13 +29,13 @@ use Rattle.setup.specs.declared.Admission.{Admission}
 use Rattle.setup.specs.declared.Admission.the-variants.{Admitted, Refused}
 use Rattle.setup.specs.Setup.{admission}
 use Rattle.judging.specs.Verdict.{plainCause}
-use Rattle.judging.specs.Judge.{judge, unanswered, globalReply, expire}
+use Rattle.judging.specs.Judge.{judge, noCallReply, globalReply, expire}
 use Rattle.effects.specs.declared.Effect.{Effect}
 use Rattle.effects.specs.declared.Table.{Table}
 use Rattle.effects.specs.Effect.{quiet, replying, onSlot, assigned}
 use Rattle.effects.specs.Restart.{restartEffect}
 
--- "lowest free permitted pair by VPCI and then VCI"; free: no live call holds it
+-- "lowest free permitted pair by VPCI and then VCI": the lowest of a range that is neither held by a live call nor permanent
 abbrev pub freePair : Table → Channel
 freePair t = lowest (taken (map entryOf (t .slots .all)) (t .pool .permanents)) (t .pool .ranges)
 
@@ -56,12 +56,12 @@ abbrev pub setupEffect : Table → ℕ → Admission → Effect
 setupEffect t r (Refused c) = replying (t .slots) true r (reply.ReleaseCompleteWith c)
 setupEffect t r Admitted = admitted t r (place isEmpty (t .slots .all))
 
--- "SETUP with flag 1, or on a live call: ignored. No such call: .."; step 5 for SETUP; "a reply on no call .. carries the other flag"
+-- "SETUP with flag 1 ..: ignored. No such call: .."; step 5 for SETUP; "a reply on no call .. carries the other flag than received"
 abbrev pub onNoCall : Table → List ℕ → Header → Effect
 onNoCall t m h =
     cond (eqb (h .kind) 0x05)
     (cond (not (h .flag) && h .whole) (setupEffect t (h .reference) (admission m 9)) (quiet (t .slots)))
-    (replying (t .slots) (not (h .flag)) (h .reference) (unanswered m h))
+    (replying (t .slots) (not (h .flag)) (h .reference) (noCallReply m h))
 
 -- "All we send about a user-originated call has flag 1, about a network-originated one flag 0": the other flag than received
 abbrev pub onHold : Table → List ℕ → Header → ℕ → ℕ → Hold → Effect

@@ -41,7 +41,7 @@ pairRestart t flag (connectionRead.Pair p v) =
 
 -- "79 absent, STATUS 96; unreadable, STATUS 100; both with diagnostic 79. .. or all calls for 82 (5A not looked at), are gone"
 abbrev pub restartEffect : Table → Bool → RestartRead → ConnectionRead → Effect
-restartEffect t flag restartRead.Absent five = restartStatus t flag 96 (diagnostic.Octet 0x79)
-restartEffect t flag restartRead.Unreadable five = restartStatus t flag 100 (diagnostic.Octet 0x79)
-restartEffect t flag (restartRead.Class c) five =
-    cond (eqb c 0x82) (afterGone (gone isLive (t .slots .all)) flag reply.RestartAcknowledgeAll) (pairRestart t flag five)
+restartEffect t flag restartRead.Absent connection = restartStatus t flag 96 (diagnostic.Octet 0x79)
+restartEffect t flag restartRead.Unreadable connection = restartStatus t flag 100 (diagnostic.Octet 0x79)
+restartEffect t flag (restartRead.Class c) connection =
+    cond (eqb c 0x82) (afterGone (gone isLive (t .slots .all)) flag reply.RestartAcknowledgeAll) (pairRestart t flag connection)

@@ -363,7 +363,7 @@ impl Table {
             slots,
             !head.flag,
             head.reference,
-            judging::unanswered(m, head),
+            judging::no_call_reply(m, head),
         )
     }
 

@@ -30,7 +30,7 @@ use Rattle.judging.specs.declared.Fate.{Fate}
 use Rattle.judging.specs.declared.Fate.the-variants as fate
 use Rattle.judging.specs.declared.Verdict.{Verdict}
 use Rattle.judging.specs.Verdict.{plainCause}
-use Rattle.judging.specs.Judge.{judge, unanswered}
+use Rattle.judging.specs.Judge.{judge, noCallReply}
 use Rattle.effects.specs.Effect.{fated, noFlags, flagsAt, flagged}
 use Rattle.effects.specs.Effects.{userCall}
 use Rattle.independence.specs.Independence.{Given}
@@ -98,7 +98,7 @@ abbrev pub onNoCall : List ℕ → Header → Found → Channel → Deed
 onNoCall m h e c =
     cond (eqb (h .kind) 0x05)
     (cond (not (h .flag) && h .whole) (setUp (h .reference) e c (admission m 9)) (still false 0 reply.None))
-    (still (not (h .flag)) (h .reference) (unanswered m h))
+    (still (not (h .flag)) (h .reference) (noCallReply m h))
 
 -- a message on a live call: its verdict
 abbrev pub turned : Header → ℕ → Verdict → Deed

@@ -19,7 +19,7 @@ use Rattle.header.specs.declared.Header.{Header}
 use Rattle.header.specs.declared.Head.the-variants.{Is}
 use Rattle.header.specs.Header.{headerIn, headOf}
 use Rattle.effects.specs.declared.Table.{Table}
-use Rattle.control.specs.Refusals.{lastReading}
+use Rattle.control.specs.Refusals.{largestReading}
 use Rattle.control.specs.Outcome.{Outcome}
 use Rattle.control.specs.Events.{messageOf}
 use Rattle.control.specs.Reached.{Reached}
@@ -41,7 +41,7 @@ pub record Given : Type 0 where
 abbrev pub givenBy : Outcome → Given
 givenBy o = record { refusal = o .answer .refusal; reply = o .reply; notice = o .answer .notice; flags = o .answer .flags }
 
--- "a list of messages .. that all carry one .. reading": the answer to one of them, and the table that it gives back
+-- "any list of messages .. that all carry one accepted reading": the answer to one of them, and the table that it gives back
 abbrev pub outcomeOf : ℕ → Table → Heard → Outcome
 outcomeOf reading t m = messageOf t (m .label) reading (m .room) (m .octets)
 
@@ -50,7 +50,7 @@ hear reading t m = (givenBy (outcomeOf reading t m), outcomeOf reading t m .answ
 
 -- "The list's reading is accepted if neither 3 nor 4 applies to it in the table that the list starts from."
 pub record AcceptedIn (t : Table) (reading : ℕ) : Type 0 where
-  pub not-above : reading ≤ lastReading
+  pub not-above : reading ≤ largestReading
   pub not-below : t .last ≤ reading
 
 -- "pass the three header checks and name non-global call references"

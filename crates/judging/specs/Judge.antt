@@ -2,7 +2,7 @@
 --   releaseReply, statusVerdict    RELEASE and STATUS on a live call
 --   contentsVerdict                step 6 of an expected message
 --   judge                          steps 3 to 6 of a message on a live call
---   unanswered                     steps 3 to 6 of a message on no call, other than SETUP
+--   noCallReply                     steps 3 to 6 of a message on no call, other than SETUP
 --   globalReply                    step 3 of a message on the global reference, other than RESTART with flag 0
 --   diagnosed, expire              what a firing timer does
 -- Assumes nothing.
@@ -85,8 +85,8 @@ statusReply (callStateRead.Value s) = cond (eqb s 0) reply.None (reply.ReleaseCo
 
 -- "No such call: RELEASE COMPLETE does nothing; STATUS ENQUIRY gets STATUS, state 0, cause 30; STATUS goes on; others but
 -- SETUP get RELEASE COMPLETE cause 81."
-abbrev pub unanswered : List ℕ → Header → Reply
-unanswered m h =
+abbrev pub noCallReply : List ℕ → Header → Reply
+noCallReply m h =
     cond (eqb (h .kind) 0x5A)
     reply.None
     (cond (eqb (h .kind) 0x75)

@@ -3,7 +3,7 @@
 //   because                   a cause with its diagnostic
 //   class_of                  the decision over type number and state
 //   judge                     a message on a live call
-//   unanswered                the reply to a message on no call, other than SETUP
+//   no_call_reply             the reply to a message on no call, other than SETUP
 //   global_reply              the reply to a message on the global reference, other than RESTART with flag 0
 //   release, expire           a call is cleared by the host; a timer fires
 // `judge`, `release` and `expire` ask for a reading that is not refused. Assumes nothing.
@@ -20,7 +20,7 @@ ghost use mathlib.Core.Bool.{false};
 ghost use Prim.Native.Nat.{_≤_};
 ghost use Rattle.judging.specs.Class.{classify};
 ghost use Rattle.judging.specs.Verdict.{because, plainCause, answered, silent, turned, ended};
-ghost use Rattle.judging.specs.Judge.{releaseComplete, releaseReply, statusVerdict, statusOf, contentsVerdict, judge, statusReply, unanswered, globalReply, diagnosed, released, expireClearing, expire};
+ghost use Rattle.judging.specs.Judge.{releaseComplete, releaseReply, statusVerdict, statusOf, contentsVerdict, judge, statusReply, noCallReply, globalReply, diagnosed, released, expireClearing, expire};
 ghost use Rattle.elements.specs.Values.{causeIn, callStateIn};
 
 // What a message is to a live call.
@@ -234,8 +234,8 @@ fn status_reply(m: &[u8]) -> Reply
 }
 
 // The reply to a message on no call, other than SETUP.
-pub fn unanswered(m: &[u8], head: Header) -> Reply
-    ensures { λ r. ⌜ r ≡ unanswered (now (m .entry)) head ⌝ }
+pub fn no_call_reply(m: &[u8], head: Header) -> Reply
+    ensures { λ r. ⌜ r ≡ noCallReply (now (m .entry)) head ⌝ }
 {
     let kind = head.kind;
     match kind {

@@ -1,7 +1,7 @@
 -- Which replies carry cause 45, and which do not.
 --   causeOf, is45          the cause number of a reply, and if it is 45
 --   says-45                octets that say 45 are of a reply that is 45
---   admission-not-45, judged-not-45, unanswered-not-45, global-not-45, hold-not-45       no reply to a message is, but the one for no free pair
+--   admission-not-45, judged-not-45, no-call-not-45, global-not-45, hold-not-45       no reply to a message is, but the one for no free pair
 --   expire-not-45, fired-not-45, connected-not-45, cleared-not-45     and no other event's
 -- Assumes nothing.
 use Prim.Native.Nat.{ℕ, _+_, _%_}
@@ -44,7 +44,7 @@ use Rattle.judging.specs.declared.Kind.the-variants as kind
 use Rattle.judging.specs.declared.Verdict.{Verdict}
 use Rattle.judging.specs.Verdict.{silent}
 use Rattle.judging.specs.Class.{classify}
-use Rattle.judging.specs.Judge.{releaseComplete, releaseReply, statusVerdict, contentsVerdict, judgedAs, statusReply, unanswered, released, expire}
+use Rattle.judging.specs.Judge.{releaseComplete, releaseReply, statusVerdict, contentsVerdict, judgedAs, statusReply, noCallReply, released, expire}
 use Rattle.effects.specs.declared.Effect.{Effect}
 use Rattle.effects.specs.declared.Table.{Table}
 use Rattle.effects.specs.Restart.{pairRestart, restartEffect}
@@ -166,8 +166,8 @@ status-reply-not-45 callStateRead.Absent = refl
 status-reply-not-45 callStateRead.Unreadable = refl
 status-reply-not-45 (callStateRead.Value s) = by-cond Not45 (eqb s 0) _ _ refl refl
 
-pub unanswered-not-45 : (m : List ℕ) (h : Header) → Not45 (unanswered m h)
-unanswered-not-45 m h =
+pub no-call-not-45 : (m : List ℕ) (h : Header) → Not45 (noCallReply m h)
+no-call-not-45 m h =
     by-cond Not45 (eqb (h .kind) 0x5A) _ _ refl
     (by-cond Not45 (eqb (h .kind) 0x75) _ _ refl
     (by-cond Not45 (eqb (h .kind) 0x7D) _ _ (by-cond Not45 (h .whole) _ _ (status-reply-not-45 (callStateIn m 9)) refl) refl))

@@ -43,7 +43,7 @@ use Rattle.effects.specs.declared.Effect.{Effect}
 use Rattle.effects.specs.declared.Table.{Table}
 use Rattle.effects.specs.Restart.{pairRestart, restartEffect}
 use Rattle.effects.specs.Effects.{freePair, userCall, onPair, admitted, setupEffect, onNoCall, onHold, addressed, globalEffect, fireHold, fired}
-use Rattle.control.specs.Refusals.{lastReading, holdAt, unclearable, causeRefusal, hostCauses}
+use Rattle.control.specs.Refusals.{largestReading, holdAt, unclearable, causeRefusal, hostCauses}
 use Rattle.control.specs.Events.{heardBy, connected, cleared, networkCall, offeredOn, offered}
 use Rattle.control.specs.Reached.{Event, message, tick, connect, clear, offer}
 use Rattle.safety.specs.Tables.{slotAt}
@@ -196,7 +196,7 @@ accepted-reading t e h =
       by-test (ltb (readingOf e) (t .last))
           (λ y. let r = too-early-reaches t e (ltb-true _ _ y) in absurd (omega arith))
           (λ n. ltb-false _ _ n),
-      by-test (ltb lastReading (readingOf e))
+      by-test (ltb largestReading (readingOf e))
           (λ y. let r = too-large-reaches t e (ltb-true _ _ y) in absurd (omega arith))
           (λ n. ltb-false _ _ n),
     )

@@ -46,7 +46,7 @@ use Rattle.safety.proofs.FixedAnswers.{outcomeOf, happens-unless, numbe
 use Rattle.safety.proofs.Lists.{some-place}
 use Rattle.safety.proofs.Happenings.{head-is, accepted-host}
 use Rattle.safety.proofs.Sound.{reached-sound}
-use Rattle.safety.proofs.Cause45.{is45, says-45, AdmissionNot45, EffectNot45, admission-not-45, unanswered-not-45, global-not-45, hold-not-45, fired-not-45, connected-not-45, cleared-not-45}
+use Rattle.safety.proofs.Cause45.{is45, says-45, AdmissionNot45, EffectNot45, admission-not-45, no-call-not-45, global-not-45, hold-not-45, fired-not-45, connected-not-45, cleared-not-45}
 
 -- A SETUP that passed and finds no pair.
 
@@ -87,7 +87,7 @@ module _ (t : Table) (m : List ℕ) (reading : ℕ) where
       let s = setup-wants (headerIn m .reference) (admission m 9) (admission-not-45 m 9) (rw (k, w) at e) in
       record { head = head; local = local; unnamed = unnamed; setup = k; whole = w; elements = s .0; slot = s .1 .0; none = s .1 .1 })
       (λ w. let z : false ≡ true = rw (k, w) at e in clash z refl))
-      (λ k. clash (rw k at e) (unanswered-not-45 m (headerIn m)))
+      (λ k. clash (rw k at e) (no-call-not-45 m (headerIn m)))
 
   found-wants : headOf m ≡ Is (headerIn m) → eqb (headerIn m .reference) 0 ≡ false → (f : Found)
       → place (isCall (headerIn m .flag) (headerIn m .reference)) (t .slots .all) ≡ f → is45 (addressed t m (headerIn m) reading f .reply) ≡ true → Passes

@@ -31,7 +31,7 @@ use Rattle.setup.specs.Offer.{offerFits}
 use Rattle.effects.specs.declared.Table.{Table}
 use Rattle.effects.specs.Effect.{slotCount}
 use Rattle.effects.specs.Effects.{freePair}
-use Rattle.control.specs.Refusals.{orElse, lastReading, commonRefusal, sizeRefusal, holdAt, notN3, unconnectable, inN12, unclearable, hostCauses, causeRefusal, bodyRefusal, slotRefusal, pairRefusal}
+use Rattle.control.specs.Refusals.{orElse, largestReading, commonRefusal, sizeRefusal, holdAt, notN3, unconnectable, inN12, unclearable, hostCauses, causeRefusal, bodyRefusal, slotRefusal, pairRefusal}
 use Rattle.control.specs.Reached.{Event, message, tick, connect, clear, offer}
 use Rattle.safety.specs.Tables.{HasSlots, slotAt}
 use Rattle.safety.specs.FixedAnswers.{labelOf, readingOf, roomOf, Applies, small-room, wrong-label, too-large, too-early, empty-message, long-message, connect-no-slot, connect-empty, clear-no-slot, clear-empty, not-in-N3, in-N12, foreign-cause, long-body, unfit-body, no-empty-slot, no-free-pair}
@@ -90,7 +90,7 @@ module _ (t : Table) (e : Event) where
       by-test (ltb (roomOf e) 1024)
       (λ a. rw a (λ h. small-room e (ltb-true _ _ a)))
       (λ a. by-test (eqb (labelOf e) 1)
-      (λ b. by-test (ltb lastReading (readingOf e))
+      (λ b. by-test (ltb largestReading (readingOf e))
       (λ c. rw (a, b, c) (λ h. too-large e (ltb-true _ _ c)))
       (λ c. rw (a, b, c) (given-test (Applies t e) (ltb (readingOf e) (t .last)) 4 (λ d. too-early e (ltb-true _ _ d)))))
       (λ b. rw (a, b) (λ h. wrong-label e (eqb-false _ _ b))))
@@ -100,7 +100,7 @@ module _ (t : Table) (e : Event) where
       by-test (ltb (roomOf e) 1024)
       (λ a. rw a (omega arith))
       (λ a. by-test (eqb (labelOf e) 1)
-      (λ b. by-test (ltb lastReading (readingOf e))
+      (λ b. by-test (ltb largestReading (readingOf e))
       (λ c. rw (a, b, c) (omega arith))
       (λ c. by-test (ltb (readingOf e) (t .last)) (λ d. rw (a, b, c, d) (omega arith)) (λ d. rw (a, b, c, d) (omega arith))))
       (λ b. rw (a, b) (omega arith)))
@@ -120,7 +120,7 @@ module _ (t : Table) (e : Event) where
       (λ a. rw a (omega arith))
       (λ a. rw (a, ne-eqb _ _ h) (omega arith))
 
-  pub too-large-reaches : lastReading < readingOf e → Reaches 3 (commonOf t e)
+  pub too-large-reaches : largestReading < readingOf e → Reaches 3 (commonOf t e)
   too-large-reaches h =
       by-test (ltb (roomOf e) 1024)
       (λ a. rw a (omega arith))
@@ -133,7 +133,7 @@ module _ (t : Table) (e : Event) where
       by-test (ltb (roomOf e) 1024)
       (λ a. rw a (omega arith))
       (λ a. by-test (eqb (labelOf e) 1)
-      (λ b. by-test (ltb lastReading (readingOf e))
+      (λ b. by-test (ltb largestReading (readingOf e))
       (λ c. rw (a, b, c) (omega arith))
       (λ c. rw (a, b, c, lt-ltb _ _ h) (omega arith)))
       (λ b. rw (a, b) (omega arith)))

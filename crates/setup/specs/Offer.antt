@@ -1,6 +1,7 @@
 -- What an offer's body must be (document 01, "An offer body ..").
---   once         an element is there exactly once
---   offerFits    the whole rule, its length apart
+--   counted        an element is there so many times
+--   isAdmitted     what SETUP admits
+--   offerFits      the whole rule, the length apart
 -- Assumes nothing.
 use Prim.Native.Nat.{ℕ}
 use mathlib.Core.Bool.{Bool, true, false, _&&_}

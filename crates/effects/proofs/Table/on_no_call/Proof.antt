@@ -24,14 +24,14 @@ quiet-requires-2 c κs = search needs
 returns-3 : tie.Need-returns-3
 returns-3 c = rw (eq-eqb _ _ (c .before .before .before .if1 .taken), c .before .before .if2 .left, c .before .if3 .left) (c .quiet2 .ensures)
 
-unanswered-requires : tie.Need-unanswered-requires
-unanswered-requires c κs = search needs
+no-call-reply-requires : tie.Need-no-call-reply-requires
+no-call-reply-requires c κs = search needs
 
 replying-requires : tie.Need-replying-requires
 replying-requires c κs = search needs
 
 returns-4 : tie.Need-returns-4
-returns-4 c = rw (ne-eqb _ _ (c .before .before .before .if1 .left)) (c .replying .ensures ∙ rw (c .before .unanswered .ensures))
+returns-4 c = rw (ne-eqb _ _ (c .before .before .before .if1 .left)) (c .replying .ensures ∙ rw (c .before .no-call-reply .ensures))
 
 pub on-no-call-spec : {M : Type 1} → statement M
 on-no-call-spec =
@@ -43,6 +43,6 @@ on-no-call-spec =
     returns-2
     quiet-requires-2
     returns-3
-    unanswered-requires
+    no-call-reply-requires
     replying-requires
     returns-4)

@@ -1,9 +1,9 @@
--- `judging::unanswered` meets its contract: by the type, and by the length field for STATUS.
+-- `judging::no_call_reply` meets its contract: by the type, and by the length field for STATUS.
 -- Assumes nothing.
 use borrow.Author.Needs.{needs}
 use borrow.Author.Tests.{ne-eqb}
-use Rattle.judging.proofs.unanswered.Statement.{statement}
-use Rattle.judging.proofs.unanswered.Tie as tie
+use Rattle.judging.proofs.no_call_reply.Statement.{statement}
+use Rattle.judging.proofs.no_call_reply.Tie as tie
 
 plain-cause-requires : tie.Need-plain-cause-requires
 plain-cause-requires c κs = search needs
@@ -30,8 +30,8 @@ returns-5 : tie.Need-returns-5
 returns-5 c = let r = c .before .match .rest in
     rw (ne-eqb _ 0x5A (r .0 .0 .1), ne-eqb _ 0x75 (r .0 .1), ne-eqb _ 0x7D (r .1), c .plain-cause2 .ensures)
 
-pub unanswered-spec : {M : Type 1} → statement M
-unanswered-spec =
+pub no-call-reply-spec : {M : Type 1} → statement M
+no-call-reply-spec =
     tie.close
     (tie.spec
     plain-cause-requires
