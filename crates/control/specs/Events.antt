@@ -2,12 +2,11 @@
 --   startOf, messageOf, tickOf, connectOf, clearOf, offerOf
 -- Each is the whole answer, the table and the reply, on any input. Assumes nothing.
 use Prim.Native.Nat.{ℕ, _+_}
-use mathlib.Core.Bool.{Bool, true, false, not, cond}
-use mathlib.Core.List.{List, []}
+use mathlib.Core.Bool.{true, false, not, cond}
+use mathlib.Core.List.{List}
 use lib.ListN.{replicate}
 use Rattle.channels.specs.declared.Channel.{Channel}
 use Rattle.channels.specs.declared.Channel.the-variants.{None, Pair}
-use Rattle.channels.specs.Channels.{emptyPool}
 use Rattle.provisioning.specs.Provisioning.{provision}
 use Rattle.calls.specs.declared.Phase.the-variants.{N6, N10}
 use Rattle.calls.specs.declared.Call.{Call}

@@ -4,9 +4,9 @@
 --   messageRefusal, connectRefusal, clearRefusal, offerRefusal
 -- 0 says that nothing is refused. Assumes nothing.
 use Prim.Native.Nat.{ℕ, _<_}
-use mathlib.Core.Bool.{Bool, cond, _&&_, _||_}
+use mathlib.Core.Bool.{cond}
 use mathlib.Core.List.{List, [], _∷_}
-use lib.Dec.{eqb, leb, ltb}
+use lib.Dec.{eqb, ltb}
 use lib.ListN.{length, getD}
 use Rattle.contents.specs.Traffic.{member}
 use Rattle.channels.specs.declared.Channel.{Channel}

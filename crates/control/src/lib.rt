@@ -24,12 +24,12 @@ ghost use mathlib.Core.Path.{_≡_};
 ghost use mathlib.Core.Bool.{true, false};
 ghost use Prim.Native.Nat.{_≤_, _<_};
 ghost use lib.ListN.{length};
-ghost use Rattle.octets.specs.Octets.{front, Fills};
+ghost use Rattle.octets.specs.Octets.{front};
 ghost use Rattle.header.specs.Header.{headOf};
 ghost use Rattle.contents.specs.Traffic.{member};
-ghost use Rattle.control.specs.Refusals.{orElse, commonRefusal, sizeRefusal, messageRefusal, holdAt, Within, notN3, unconnectable, connectRefusal, inN12, unclearable, hostCauses, causeRefusal, clearRefusal, bodyRefusal};
+ghost use Rattle.control.specs.Refusals.{commonRefusal, sizeRefusal, holdAt, Within, notN3, inN12, hostCauses, bodyRefusal};
 ghost use Rattle.control.specs.Outcome.{refusedWith, effectReply, settled, sending};
-ghost use Rattle.control.specs.Events.{startOf, heardBy, messageOf, tickOf, connected, connectOf, cleared, clearOf, offeredOn, offered, offerOf};
+ghost use Rattle.control.specs.Events.{startOf, heardBy, messageOf, tickOf, connected, connectOf, cleared, clearOf, offeredOn, offerOf};
 
 // What an event answers, with the table afterwards. `more`: after a tick, whether another timer is due.
 pub struct Answer {

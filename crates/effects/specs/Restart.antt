@@ -4,10 +4,8 @@
 --   restartEffect     the whole row
 -- Assumes nothing.
 use Prim.Native.Nat.{ℕ}
-use mathlib.Core.Bool.{Bool, not, cond, _||_}
-use mathlib.Core.List.{List}
+use mathlib.Core.Bool.{Bool, cond, _||_}
 use lib.Dec.{eqb, ltb}
-use Rattle.channels.specs.declared.Pool.{Pool}
 use Rattle.channels.specs.Channels.{permanent, knownVpci}
 use Rattle.calls.specs.Calls.{isLive, holdsPair, gone}
 use Rattle.elements.specs.declared.ConnectionRead.{ConnectionRead}

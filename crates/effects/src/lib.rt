@@ -37,7 +37,7 @@ ghost use Rattle.calls.specs.First.{place};
 ghost use Rattle.calls.specs.Calls.{isEmpty};
 ghost use Rattle.effects.specs.Effect.{turnedHold, fated, flagged, replying, quiet, onSlot, assigned, isSet, goneNotice, afterGone};
 ghost use Rattle.effects.specs.Restart.{restartStatus, pairRestart, restartEffect};
-ghost use Rattle.effects.specs.Effects.{freePair, userCall, onPair, admitted, setupEffect, onNoCall, onHold, addressed, globalEffect, messageEffect, fireHold, fired, tickEffect};
+ghost use Rattle.effects.specs.Effects.{freePair, onPair, admitted, setupEffect, onNoCall, addressed, globalEffect, messageEffect, fired, tickEffect};
 ghost use Rattle.elements.specs.Values.{connectionIn, restartIn};
 ghost use Rattle.setup.specs.Setup.{admission};
 

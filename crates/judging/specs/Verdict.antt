@@ -10,7 +10,6 @@ use Rattle.replies.specs.declared.Diagnostic.the-variants as diagnostic
 use Rattle.replies.specs.declared.Cause.{Cause}
 use Rattle.replies.specs.declared.Reply.{Reply}
 use Rattle.replies.specs.declared.Reply.the-variants as reply
-use Rattle.judging.specs.declared.Fate.{Fate}
 use Rattle.judging.specs.declared.Fate.the-variants.{Stay, To, Gone}
 use Rattle.judging.specs.declared.Verdict.{Verdict}
 

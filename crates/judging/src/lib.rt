@@ -19,7 +19,7 @@ ghost use mathlib.Core.Path.{_≡_};
 ghost use mathlib.Core.Bool.{false};
 ghost use Prim.Native.Nat.{_≤_};
 ghost use Rattle.judging.specs.Class.{classify};
-ghost use Rattle.judging.specs.Verdict.{because, plainCause, answered, silent, turned, ended};
+ghost use Rattle.judging.specs.Verdict.{because, plainCause, answered, turned, ended};
 ghost use Rattle.judging.specs.Judge.{releaseComplete, releaseReply, statusVerdict, statusOf, contentsVerdict, judge, statusReply, noCallReply, globalReply, diagnosed, released, expireClearing, expire};
 ghost use Rattle.elements.specs.Values.{causeIn, callStateIn};
 

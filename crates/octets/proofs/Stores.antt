@@ -5,12 +5,12 @@
 --   chained         a run from place 0 that fits fills the front
 -- Assumes nothing.
 use Prim.Native.Nat.{ℕ, suc, _+_, _≤_, _<_}
-use mathlib.Core.Path.{_≡_, refl, sym, ap, _∙_}
+use mathlib.Core.Path.{_≡_, sym, ap, _∙_}
 use mathlib.Core.List.{List, [], _∷_, _++_}
 use native.Mathlib.Omega.{arith}
 use native.Mathlib.Numerals.{add-one}
 use lib.ListN.{length, take, drop, set, getD, length-append, length-take}
-use lib.Seq.{sets, sets-eq, length-sets, take-suc}
+use lib.Seq.{sets, sets-eq, take-suc}
 use Rattle.octets.specs.Octets.{Wrote, front}
 
 pub sets-append : (vs ws l : List ℕ) (i : ℕ) → sets l i (vs ++ ws) ≡ sets (sets l i vs) (i + length vs) ws

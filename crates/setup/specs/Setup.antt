@@ -17,7 +17,6 @@ use Rattle.elements.specs.declared.BearerRead.the-variants as bearerRead
 use Rattle.elements.specs.Values.{read, bearerIn}
 use Rattle.replies.specs.declared.Mandatory.{Mandatory}
 use Rattle.replies.specs.declared.Diagnostic.the-variants as diagnostic
-use Rattle.replies.specs.declared.Cause.{Cause}
 use Rattle.setup.specs.declared.Mandated.{Mandated}
 use Rattle.setup.specs.declared.Admission.{Admission}
 use Rattle.setup.specs.declared.Admission.the-variants.{Admitted, Refused}

@@ -1,6 +1,5 @@
 -- `control::common_refusal` meets its contract: each test of the code is a test of `commonRefusal`, in its order.
 -- Assumes nothing.
-use borrow.Author.Needs.{needs}
 use native.Mathlib.Omega.{arith}
 use borrow.Author.Tests.{lt-ltb, le-ltb, eq-eqb, ne-eqb}
 use Rattle.control.proofs.common_refusal.Statement.{statement}

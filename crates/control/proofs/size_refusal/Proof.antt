@@ -1,6 +1,5 @@
 -- `control::size_refusal` meets its contract: by the number of octets.
 -- Assumes nothing.
-use borrow.Author.Needs.{needs}
 use borrow.Author.Tests.{lt-ltb, le-ltb, eq-eqb, ne-eqb}
 use Rattle.control.proofs.size_refusal.Statement.{statement}
 use Rattle.control.proofs.size_refusal.Tie as tie

@@ -1,6 +1,5 @@
 -- `effects::is_restart` meets its contract: by the type, and by the flag.
 -- Assumes nothing.
-use borrow.Author.Needs.{needs}
 use borrow.Author.Tests.{eq-eqb, ne-eqb}
 use Rattle.effects.proofs.is_restart.Statement.{statement}
 use Rattle.effects.proofs.is_restart.Tie as tie
