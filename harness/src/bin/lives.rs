@@ -1,12 +1,12 @@
-//! Standard lives of calls, for counting instructions: `KIND LIVE ROUNDS RANGES`
-//! on standard input. KIND 0 is a user-originated call (SETUP, connect, CONNECT
-//! ACKNOWLEDGE, RELEASE), 1 a network-originated one (offer, CALL PROCEEDING,
-//! CONNECT, clear, RELEASE COMPLETE). LIVE calls stand beside the one that lives,
-//! in RANGES ranges of as many VCIs as leave it the last one. Writes the octets
-//! of all replies added up.
+//! Standard lives of calls, for counting instructions. Four octets on standard
+//! input: 0 for a user-originated call (SETUP, connect, CONNECT ACKNOWLEDGE,
+//! RELEASE) or 1 for a network-originated one (offer, CALL PROCEEDING, CONNECT,
+//! clear, RELEASE COMPLETE); how many calls stand beside it; hundreds of lives;
+//! 1, 2 or 4 ranges. Writes the lengths of all replies added up
+//! modulo 1,000,000.
 
 use harness::controller::{Answer, Request, Table};
-use std::io;
+use std::io::{self, Read};
 
 const SETUP: [u8; 45] = [
     0x09, 0x03, 0x00, 0x00, 0x00, 0x05, 0x80, 0x00, 0x24, 0x59, 0x80, 0x00, 0x08, 0x84, 0x00, 0x10,
@@ -25,7 +25,7 @@ struct Life {
 
 impl Life {
     fn count(&mut self, answer: &Answer) {
-        self.sum += answer.reply.iter().map(|&o| u64::from(o)).sum::<u64>();
+        self.sum = (self.sum + answer.reply.len() as u64) % 1_000_000;
     }
 
     fn message(&mut self, octets: &[u8]) {
@@ -71,24 +71,25 @@ const REQUEST: Request = Request {
     room: 1_024,
 };
 
-/// Ranges of consecutive VCIs that hold `live` calls and one more.
-fn ranges(live: u16, count: u16) -> Vec<u16> {
-    let each = (live + count) / count;
-    (0..count).flat_map(|k| [k, 32, 31 + each]).collect()
+/// 32 channels, in 1, 2 or 4 ranges.
+fn ranges(count: u8) -> &'static [u16] {
+    match count {
+        1 => &[0, 32, 63],
+        2 => &[0, 32, 47, 1, 32, 47],
+        _ => &[0, 32, 39, 1, 32, 39, 2, 32, 39, 3, 32, 39],
+    }
 }
 
 fn main() -> io::Result<()> {
-    let text = io::read_to_string(io::stdin())?;
-    let words: Vec<u16> = text.split_whitespace().map(|w| w.parse().unwrap_or(0)).collect();
-    let &[kind, live, rounds, count] = &words[..] else {
-        return Err(io::Error::other("KIND LIVE ROUNDS RANGES"));
-    };
-    let table = Table::start(&ranges(live, count), &[]).expect("ranges that start takes");
+    let mut input = [0; 4];
+    io::stdin().read_exact(&mut input)?;
+    let [kind, live, hundreds, count] = input;
+    let table = Table::start(ranges(count), &[]).expect("ranges that start takes");
     let mut life = Life { table, sum: 0 };
     for reference in 1..=live {
-        life.setup(reference as u8);
+        life.setup(reference);
     }
-    for _ in 0..rounds {
+    for _ in 0..u32::from(hundreds) * 100 {
         match kind {
             0 => life.user(u64::from(live)),
             _ => life.network(u64::from(live)),

@@ -1,0 +1,46 @@
+-- `lives::lived` is safe and ends: it counts up to `rounds`. Assumes nothing.
+use borrow.Author.Needs.{needs}
+use Prim.Native.Nat.{_≤_, _-_}
+use Rattle.lives.proofs.lived.Statement.{statement}
+use Rattle.lives.proofs.lived.Tie as tie
+
+abbrev Inv-loop : tie.InvT-loop
+Inv-loop kind live rounds room₀ l₀ i₀ room l i = i ≤ rounds
+
+abbrev μ-loop : tie.MeasureT-loop
+μ-loop kind live rounds room₀ l₀ i₀ room l i = rounds - i
+
+loop-holds : tie.Need-loop-holds Inv-loop μ-loop
+loop-holds c = search needs
+
+user-requires : tie.Need-user-requires Inv-loop μ-loop
+user-requires c κs = search needs
+
+network-requires : tie.Need-network-requires Inv-loop μ-loop
+network-requires c κs = search needs
+
+add-i : tie.Need-add-i Inv-loop μ-loop
+add-i c = search needs
+
+loop-less : tie.Need-loop-less Inv-loop μ-loop
+loop-less c = search needs
+
+loop-again : tie.Need-loop-again Inv-loop μ-loop
+loop-again c = search needs
+
+returns : tie.Need-returns Inv-loop μ-loop
+returns c = search needs
+
+pub lived-spec : {M : Type 1} → statement M
+lived-spec =
+    tie.close
+    (tie.spec
+    Inv-loop
+    μ-loop
+    loop-holds
+    user-requires
+    network-requires
+    add-i
+    loop-less
+    loop-again
+    returns)

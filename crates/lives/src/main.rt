@@ -1,0 +1,194 @@
+// Standard lives of calls, for counting instructions. Four octets on standard input: 0 for a user-originated call
+// (SETUP, connect, CONNECT ACKNOWLEDGE, RELEASE) or 1 for a network-originated one (offer, CALL PROCEEDING, CONNECT,
+// clear, RELEASE COMPLETE); how many calls stand beside it; hundreds of lives; 1, 2 or 4 ranges. Writes the lengths
+// of all replies added up modulo 1,000,000.
+use control::Answer;
+use effects::Table;
+ghost use Prim.Native.Nat.{_<_};
+
+// A SETUP on reference 0; its elements are an offer's body too.
+const SETUP: [u8; 45] = [
+    0x09,
+    0x03,
+    0x00,
+    0x00,
+    0x00,
+    0x05,
+    0x80,
+    0x00,
+    0x24,
+    0x59,
+    0x80,
+    0x00,
+    0x08,
+    0x84,
+    0x00,
+    0x10,
+    0x00,
+    0x85,
+    0x00,
+    0x10,
+    0x00,
+    0x5C,
+    0x80,
+    0x00,
+    0x02,
+    0x00,
+    0x00,
+    0x5E,
+    0x80,
+    0x00,
+    0x02,
+    0x81,
+    0x80,
+    0x70,
+    0x80,
+    0x00,
+    0x08,
+    0x91,
+    0x35,
+    0x35,
+    0x35,
+    0x31,
+    0x32,
+    0x33,
+    0x34,
+];
+
+// A table, and the lengths of the replies so far, added up modulo 1,000,000.
+struct Life {
+    table: Table,
+    sum: u64,
+}
+
+fn counted(life: Life, answer: Answer) -> Life {
+    let table = answer.table;
+    Life {
+        table: table,
+        sum: (life.sum % 1000000 + (answer.length % 4096) as u64) % 1000000,
+    }
+}
+
+impl Life {
+    fn heard(self, m: &[u8], room: &mut [u8; 1024]) -> Life {
+        let table = self.table;
+        let answer = control::message(table, 1, 0, room, m);
+        counted(self, answer)
+    }
+
+    // A message without elements.
+    fn bare(self, flag: u8, reference: u8, kind: u8, room: &mut [u8; 1024]) -> Life {
+        self.heard(&[0x09, 0x03, flag, 0, reference, kind, 0x80, 0, 0], room)
+    }
+
+    fn set_up(self, reference: u8, room: &mut [u8; 1024]) -> Life {
+        let mut m = SETUP;
+        m[4] = reference;
+        self.heard(&m, room)
+    }
+
+    fn user(self, slot: u64, room: &mut [u8; 1024]) -> Life {
+        let asked = self.set_up(200, room);
+        let table = asked.table;
+        let answer = control::connect(table, 1, 0, room, slot);
+        let active = counted(asked, answer);
+        let acknowledged = active.bare(0, 200, 0x0F, room);
+        acknowledged.heard(
+            &[
+                0x09,
+                0x03,
+                0,
+                0,
+                200,
+                0x4D,
+                0x80,
+                0,
+                6,
+                0x08,
+                0x80,
+                0,
+                2,
+                0x80,
+                0x90,
+            ],
+            room,
+        )
+    }
+
+    fn network(self, slot: u64, room: &mut [u8; 1024]) -> Life {
+        let table = self.table;
+        let m = SETUP;
+        let offered = control::offer(table, 1, 0, room, &m[9..]);
+        let present = counted(self, offered);
+        let proceeding = present.bare(0x80, 1, 0x02, room);
+        let active = proceeding.bare(0x80, 1, 0x07, room);
+        let called = active.table;
+        let cleared = control::clear(called, 1, 0, room, slot, 16);
+        let releasing = counted(active, cleared);
+        releasing.bare(0x80, 1, 0x5A, room)
+    }
+}
+
+// LIVE calls on references from 1.
+fn filled(life: Life, live: u64, room: &mut [u8; 1024]) -> Life {
+    let mut l = life;
+    let mut i: u64 = 0;
+    while i < live {
+        l = l.set_up(((i + 1) % 256) as u8, room);
+        i += 1;
+    }
+    l
+}
+
+fn lived(life: Life, kind: u8, live: u64, rounds: u64, room: &mut [u8; 1024]) -> Life {
+    let mut l = life;
+    let mut i: u64 = 0;
+    while i < rounds {
+        if kind == 0 {
+            l = l.user(live, room);
+        } else {
+            l = l.network(live, room);
+        }
+        i += 1;
+    }
+    l
+}
+
+// 32 channels, in 1, 2 or 4 ranges.
+fn table_of(ranges: u8) -> Table {
+    match ranges {
+        1 => {
+            let started = control::start(&[0, 32, 63], &[]);
+            started.table
+        }
+        2 => {
+            let started = control::start(&[0, 32, 47, 1, 32, 47], &[]);
+            started.table
+        }
+        _ => {
+            let started = control::start(&[0, 32, 39, 1, 32, 39, 2, 32, 39, 3, 32, 39], &[]);
+            started.table
+        }
+    }
+}
+
+fn wide(octet: u8) -> u64
+    ensures { λ r. ⌜ r < 256 ⌝ }
+{
+    octet as u64
+}
+
+fn main() {
+    let mut input = [0u8; 4];
+    let mut room = [0u8; 1024];
+    io::read_full(0, &mut input);
+    let live = wide(input[1]);
+    let fresh = Life {
+        table: table_of(input[3]),
+        sum: 0,
+    };
+    let full = filled(fresh, live, &mut room);
+    let life = lived(full, input[0], live, wide(input[2]) * 100, &mut room);
+    io::print_decimal(1, life.sum);
+    io::write_all(1, b"\n");
+}

@@ -1,0 +1,4 @@
+pub mod Digits
+pub mod Decoding
+pub mod Cut
+pub mod Numbers

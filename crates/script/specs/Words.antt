@@ -1,0 +1,62 @@
+-- The words of a line, separated by one blank.
+--   wordLength, endAt, wordAt   the word from a place up to the next blank or the line's end
+--   equal, wordOf               the word that a line begins with
+--   fieldAt                     the number behind a blank
+-- Assumes nothing.
+use Prim.Native.Nat.{ℕ, zero, suc, _+_}
+use mathlib.Core.Bool.{Bool, true, false, cond, _&&_}
+use mathlib.Core.List.{List, [], _∷_}
+use lib.Dec.{eqb, ltb}
+use lib.ListN.{length, drop}
+use Rattle.octets.specs.Octets.{part}
+use Rattle.script.specs.declared.decimal.Number.{Number}
+use Rattle.script.specs.declared.decimal.Number.the-variants as number
+use Rattle.script.specs.declared.words.Field.{Field}
+use Rattle.script.specs.declared.words.Field.the-variants as field
+use Rattle.script.specs.declared.words.Word.{Word}
+use Rattle.script.specs.declared.words.Word.the-variants.{Unknown, Start, Event}
+use Rattle.script.specs.declared.words.Kind.the-variants.{Message, Tick, Connect, Clear, Offer}
+use Rattle.script.specs.Decimal.{numberOf}
+
+-- how many octets stand before the first blank
+abbrev pub wordLength : List ℕ → ℕ
+wordLength [] = 0
+wordLength (o ∷ os) = cond (eqb o 32) 0 (suc (wordLength os))
+
+-- the place of the first blank from a place on, or the line's end
+abbrev pub endAt : List ℕ → ℕ → ℕ
+endAt line at = at + wordLength (drop at line)
+
+abbrev pub wordAt : List ℕ → ℕ → List ℕ
+wordAt line at = part line at (endAt line at)
+
+-- the same octets
+abbrev pub equal : List ℕ → List ℕ → Bool
+equal [] [] = true
+equal [] (b ∷ t) = false
+equal (a ∷ s) [] = false
+equal (a ∷ s) (b ∷ t) = eqb a b && equal s t
+
+-- `message`, `tick`, `connect`, `clear`, `offer` and `start`, in ASCII
+abbrev pub wordOf : List ℕ → Word
+wordOf w =
+    cond (equal w (109 ∷ 101 ∷ 115 ∷ 115 ∷ 97 ∷ 103 ∷ 101 ∷ [])) (Event Message)
+    (cond (equal w (116 ∷ 105 ∷ 99 ∷ 107 ∷ [])) (Event Tick)
+    (cond (equal w (99 ∷ 111 ∷ 110 ∷ 110 ∷ 101 ∷ 99 ∷ 116 ∷ [])) (Event Connect)
+    (cond (equal w (99 ∷ 108 ∷ 101 ∷ 97 ∷ 114 ∷ [])) (Event Clear)
+    (cond (equal w (111 ∷ 102 ∷ 102 ∷ 101 ∷ 114 ∷ [])) (Event Offer)
+    (cond (equal w (115 ∷ 116 ∷ 97 ∷ 114 ∷ 116 ∷ [])) Start Unknown)))))
+
+-- what is made of a field, by its two cases
+abbrev pub onField : {A : Type 0} → Field → A → (ℕ → ℕ → A) → A
+onField field.Bad bad good = bad
+onField (field.Is n end) bad good = good n end
+
+-- a number with the place behind it
+abbrev pub placed : Number → ℕ → Field
+placed number.Bad end = field.Bad
+placed (number.Is n) end = field.Is n end
+
+-- the number behind the blank at a place; at the line's end there is none
+abbrev pub fieldAt : List ℕ → ℕ → Field
+fieldAt line at = cond (ltb at (length line)) (placed (numberOf (wordAt line (at + 1))) (endAt line (at + 1))) field.Bad

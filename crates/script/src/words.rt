@@ -1,0 +1,100 @@
+// The words of a line, separated by one blank.
+ghost use mathlib.Core.Path.{_≡_};
+ghost use Prim.Native.Nat.{_≤_};
+ghost use lib.ListN.{length};
+ghost use Rattle.script.specs.Words.{endAt, equal, wordOf, fieldAt};
+use crate::decimal;
+use crate::decimal::Number;
+
+// The word that a line begins with.
+pub enum Word {
+    Unknown,
+    Start,
+    Event(Kind),
+}
+
+// The events but start.
+pub enum Kind {
+    Message,
+    Tick,
+    Connect,
+    Clear,
+    Offer,
+}
+
+// A number and the place behind it, or none.
+pub enum Field {
+    Bad,
+    Is(u64, usize),
+}
+
+// The place of the first blank from place `at` on, or the line's end.
+pub fn word_end(line: &[u8], at: usize) -> usize
+    ensures { λ r. ⌜ r ≡ endAt (now (line .entry)) at ⌝ }
+    ensures within { λ r. ⌜ (at ≤ r) × (at ≤ length (now (line .entry)) → r ≤ length (now (line .entry))) ⌝ }
+{
+    let mut i = at;
+    while i < line.len() {
+        if line[i] == b' ' {
+            return i;
+        }
+        i += 1;
+    }
+    i
+}
+
+// The number behind the blank at place `at`.
+pub fn read_field(line: &[u8], at: usize) -> Field
+    ensures { λ r. ⌜ r ≡ fieldAt (now (line .entry)) at ⌝ }
+{
+    if line.len() <= at {
+        return Field::Bad;
+    }
+    let from = at + 1;
+    let to = word_end(line, from);
+    match decimal::read_number(&line[from..to]) {
+        Number::Bad => Field::Bad,
+        Number::Is(value) => Field::Is(value, to),
+    }
+}
+
+// Whether two words have the same octets.
+fn same(a: &[u8], b: &[u8]) -> bool
+    ensures { λ r. ⌜ r ≡ equal (now (a .entry)) (now (b .entry)) ⌝ }
+{
+    if a.len() != b.len() {
+        return false;
+    }
+    let mut i: usize = 0;
+    while i < a.len() {
+        if a[i] != b[i] {
+            return false;
+        }
+        i += 1;
+    }
+    true
+}
+
+pub fn read_word(w: &[u8]) -> Word
+    ensures { λ r. ⌜ r ≡ wordOf (now (w .entry)) ⌝ }
+{
+    if same(w, b"message") {
+        return Word::Event(Kind::Message);
+    }
+    if same(w, b"tick") {
+        return Word::Event(Kind::Tick);
+    }
+    if same(w, b"connect") {
+        return Word::Event(Kind::Connect);
+    }
+    if same(w, b"clear") {
+        return Word::Event(Kind::Clear);
+    }
+    if same(w, b"offer") {
+        return Word::Event(Kind::Offer);
+    }
+    if same(w, b"start") {
+        return Word::Start;
+    }
+    Word::Unknown
+}

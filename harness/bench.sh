@@ -1,0 +1,61 @@
+#!/bin/sh
+# Instructions and time for each event of a standard life of a call, for the
+# proved controller and for the reference implementation, in one run.
+# usage: bench.sh LIVES            LIVES: the program that `rt check lives` makes
+set -eu
+export LC_ALL=C
+
+if [ $# -ne 1 ]; then
+    echo "usage: bench.sh LIVES" >&2
+    exit 2
+fi
+proved=$1
+here=$(dirname "$0")
+cargo build --offline --release --quiet --manifest-path "$here/Cargo.toml"
+reference=$here/target/release/lives
+work=$(mktemp -d)
+trap 'rm -rf "$work"' EXIT
+
+# The four octets of the input: kind, calls beside, hundreds of lives, ranges.
+input() {
+    printf "\\$(printf %o "$1")\\$(printf %o "$2")\\$(printf %o "$3")\\$(printf %o "$4")"
+}
+
+# instructions PROGRAM KIND BESIDE RANGES EVENTS: of one event, by callgrind
+instructions() {
+    for hundreds in 0 2; do
+        input "$2" "$3" $hundreds "$4" >"$work/in"
+        valgrind --tool=callgrind --callgrind-out-file=/dev/null "$1" <"$work/in" 2>&1 >/dev/null |
+            sed -n 's/.*Collected : //p'
+    done | awk -v events="$5" 'NR == 1 { base = $1 } NR == 2 { printf "%d", ($1 - base) / (200 * events) }'
+}
+
+# nanoseconds PROGRAM KIND BESIDE RANGES EVENTS: of one event, the best of five runs
+nanoseconds() {
+    input "$2" "$3" 250 "$4" >"$work/in"
+    for run in 1 2 3 4 5; do
+        from=$(date +%s%N)
+        "$1" <"$work/in" >/dev/null
+        to=$(date +%s%N)
+        echo $((to - from))
+    done | sort -n | awk -v events="$5" 'NR == 1 { printf "%d", $1 / (25000 * events) }'
+}
+
+row() {
+    ours=$(instructions "$proved" "$2" "$3" "$4" "$5")
+    theirs=$(instructions "$reference" "$2" "$3" "$4" "$5")
+    fast=$(nanoseconds "$proved" "$2" "$3" "$4" "$5")
+    other=$(nanoseconds "$reference" "$2" "$3" "$4" "$5")
+    ratio=$(awk -v a="$ours" -v b="$theirs" 'BEGIN { printf "%.1f", a / b }')
+    printf '| %s | %d | %d | %d | %d | %s | %d | %d |\n' "$1" $(($3 + 1)) "$4" "$ours" "$theirs" "$ratio" "$fast" "$other"
+}
+
+echo '| life | live calls | ranges | instructions, proved | instructions, reference | ratio | ns, proved | ns, reference |'
+echo '|---|---|---|---|---|---|---|---|'
+for beside in 0 15 31; do
+    row "user call, 4 events" 0 $beside 1 4
+    row "network call, 5 events" 1 $beside 1 5
+done
+for ranges in 2 4; do
+    row "user call, 4 events" 0 31 $ranges 4
+done
