@@ -14,4 +14,3 @@ pub mod Cause45
 pub mod NoPair
 pub mod Gone
 pub mod Slips
-pub mod Demands
