@@ -18,6 +18,7 @@ use Rattle.safety.proofs.FixedStart.{fixed-start}
 use Rattle.safety.proofs.Sound.{reached-sound, never-shared, always-permitted, always-in-limits}
 use Rattle.safety.proofs.NoPair.{sent-exactly, no-pair-exactly}
 use Rattle.safety.proofs.Gone.{held-until-gone}
+use Rattle.safety.proofs.Release.{release-frees-none}
 use Rattle.safety.proofs.Slips.{not-handed-out, released-holds, one-side, setup-is-new, both-ones, duplicate-ignored, no-status-for-status, permanent-stays}
 use Rattle.demands.specs.Demands.{RefusedByNumber, DemandOne, DemandTwo, DemandThree, SlipsShutOut}
 use Rattle.demands.proofs.Sent.{every-reply-reads-back, every-reply-is-octets, every-reply-is-short}
@@ -79,6 +80,7 @@ small-table = small.small-table
 pub slips : SlipsShutOut
 slips = record {
   held-until-gone = λ t r e. held-until-gone t e ((reached-sound t r) .has-slots);
+  release-frees-none = λ t r e. release-frees-none t e ((reached-sound t r) .has-slots);
   not-handed-out = not-handed-out;
   released-holds = released-holds;
   one-side = one-side;

@@ -22,7 +22,7 @@ use Rattle.safety.specs.Tables.{HasCall}
 use Rattle.safety.specs.FixedAnswers.{labelOf, readingOf, roomOf, FixedAnswer, FixedStart}
 use Rattle.safety.specs.Sound.{Sound, InOctets, AllInOctets}
 use Rattle.safety.specs.NoPair.{NoPairExactly, SentExactly}
-use Rattle.safety.specs.Slips.{HeldUntilGone, NotHandedOut, ReleasedHolds, OneSide, SetupIsNew, BothOnes, DuplicateIgnored, NoStatusForStatus, PermanentStays}
+use Rattle.safety.specs.Slips.{HeldUntilGone, ReleaseFreesNone, NotHandedOut, ReleasedHolds, OneSide, SetupIsNew, BothOnes, DuplicateIgnored, NoStatusForStatus, PermanentStays}
 use Rattle.demands.specs.Sent.{readBack, meantBy}
 
 -- "A reading with the wrong label, too large, or earlier than the last accepted one is refused by its number.": "The lowest number
@@ -74,6 +74,7 @@ pub record DemandThree : Type 0 where
 pub record SlipsShutOut : Type 0 where
   -- "A pair freed when RELEASE is sent, not when the call is gone."
   pub held-until-gone : (t : Table) → Reached t → (e : Event) → HeldUntilGone t e
+  pub release-frees-none : (t : Table) → Reached t → (e : Event) → ReleaseFreesNone t e
   pub not-handed-out : (t : Table) → NotHandedOut t
   pub released-holds : (t : Table) → ReleasedHolds t
   -- "Flag forgotten, so user reference 1 and network reference 1 become one call."
