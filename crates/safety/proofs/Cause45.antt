@@ -2,6 +2,7 @@
 --   causeOf, is45          the cause number of a reply, and if it is 45
 --   says-45                octets that say 45 are of a reply that is 45
 --   admission-not-45, judged-not-45, no-call-not-45, global-not-45, hold-not-45       no reply to a message is, but the one for no free pair
+--   member-passes          what all of a list passes, a member passes
 --   expire-not-45, fired-not-45, connected-not-45, cleared-not-45     and no other event's
 -- Assumes nothing.
 use Prim.Native.Nat.{ℕ, _+_, _%_}
@@ -197,7 +198,7 @@ hold-not-45 t m h reading i Empty = refl
 hold-not-45 t m h reading i (Live c) = judged-not-45 (classify (h .kind) (c .phase)) m h (c .phase) reading
 
 -- A cause that the host may use is none of these.
-member-passes : (q : ℕ → Bool) (n : ℕ) (xs : List ℕ) → someOf (λ x. not (q x)) xs ≡ false → member n xs ≡ true → q n ≡ true
+pub member-passes : (q : ℕ → Bool) (n : ℕ) (xs : List ℕ) → someOf (λ x. not (q x)) xs ≡ false → member n xs ≡ true → q n ≡ true
 member-passes q n [] all e = clash e refl
 member-passes q n (x ∷ xs) all e =
     by-test (q x)

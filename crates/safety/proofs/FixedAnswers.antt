@@ -1,12 +1,14 @@
 -- Demand 1 holds of every event on every table that has its slots.
 --   outcomeOf, happens-unless     what an event is where nothing refuses it
+--   accepted-reply, refused-reply what it sends
 --   accepts, number               then its number is 0 and its reading is stored; the number of an event's answer
 --   fixed-answer
 -- Assumes nothing.
 use Prim.Native.Nat.{ℕ}
 use mathlib.Core.Path.{_≡_, refl, sym, ap, _∙_}
 use mathlib.Core.Logic.{_≢_}
-use mathlib.Core.List.{List}
+use mathlib.Core.Bool.{true, false}
+use mathlib.Core.List.{List, []}
 use native.Mathlib.Omega.{arith}
 use lib.Dec.{eqb}
 use borrow.Author.Tests.{eqb-true, eqb-false, ne-eqb, eq-eqb}
@@ -66,6 +68,13 @@ happens-unless t (tick label reading room) = ap (λ (n : ℕ). unlessRefused t n
 happens-unless t (connect label reading room slot) = refl
 happens-unless t (clear label reading room slot cause) = refl
 happens-unless t (offer label reading room body) = refl
+
+-- what is sent
+pub accepted-reply : (t : Table) (e : Event) → eqb (refusalOf t e) 0 ≡ true → happens t e .reply ≡ outcomeOf t e .reply
+accepted-reply t e y = ap (λ (o : Outcome). o .reply) (happens-unless t e) ∙ rw y
+
+pub refused-reply : (t : Table) (e : Event) → eqb (refusalOf t e) 0 ≡ false → happens t e .reply ≡ []
+refused-reply t e n = ap (λ (o : Outcome). o .reply) (happens-unless t e) ∙ rw n
 
 pub accepts : (t : Table) (e : Event) → refusalOf t e ≡ 0 → Accepts t (readingOf e) (outcomeOf t e)
 accepts t (message label reading room octets) h = record { number = refl; stored = record { last = refl; pool = refl; size = refl } }

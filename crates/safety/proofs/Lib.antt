@@ -14,4 +14,4 @@ pub mod Cause45
 pub mod NoPair
 pub mod Gone
 pub mod Slips
-pub mod Demands
+pub mod Release

@@ -34,7 +34,7 @@ use Rattle.effects.specs.declared.Table.{Table}
 use Rattle.effects.specs.Effect.{replying}
 use Rattle.effects.specs.Effects.{freePair, onPair, admitted, setupEffect, onNoCall, addressed, messageEffect, tickEffect}
 use Rattle.control.specs.Refusals.{holdAt}
-use Rattle.control.specs.Outcome.{Outcome, effectReply}
+use Rattle.control.specs.Outcome.{effectReply}
 use Rattle.control.specs.Events.{heardBy, connected, cleared, offeredOn, offered}
 use Rattle.control.specs.Reached.{Event, message, tick, connect, clear, offer, happens, Reached}
 use Rattle.safety.specs.Tables.{slotAt, NoneFree}
@@ -42,7 +42,7 @@ use Rattle.safety.specs.Sound.{Sound}
 use Rattle.safety.specs.NoPair.{PassedAllChecks, WantsPair, wants, Says45, in-release, in-release-complete, in-status, noPair, noPairOctets, NoPairExactly, SentExactly}
 use Rattle.safety.proofs.Tables.{none-free, free-none, empty-at, nothing-named, named-nothing}
 use Rattle.safety.proofs.Refusals.{refusalOf}
-use Rattle.safety.proofs.FixedAnswers.{outcomeOf, happens-unless, number}
+use Rattle.safety.proofs.FixedAnswers.{outcomeOf, accepted-reply, refused-reply, number}
 use Rattle.safety.proofs.Lists.{some-place}
 use Rattle.safety.proofs.Happenings.{head-is, accepted-host}
 use Rattle.safety.proofs.Sound.{reached-sound}
@@ -165,12 +165,6 @@ says-nothing : {P : Type 0} → Says45 [] → P
 says-nothing (in-release k c) = absurd (omega arith)
 says-nothing (in-release-complete k c) = absurd (omega arith)
 says-nothing (in-status k c) = absurd (omega arith)
-
-accepted-reply : (t : Table) (e : Event) → eqb (refusalOf t e) 0 ≡ true → happens t e .reply ≡ outcomeOf t e .reply
-accepted-reply t e y = ap (λ (o : Outcome). o .reply) (happens-unless t e) ∙ rw y
-
-refused-reply : (t : Table) (e : Event) → eqb (refusalOf t e) 0 ≡ false → happens t e .reply ≡ []
-refused-reply t e n = ap (λ (o : Outcome). o .reply) (happens-unless t e) ∙ rw n
 
 -- what an event says that is accepted, it says as its outcome
 says-accepted : (t : Table) (e : Event) → Says45 (happens t e .reply) → (refusalOf t e ≡ 0) × Says45 (outcomeOf t e .reply)

@@ -2,7 +2,7 @@
 --   not-handed-out, released-holds     a pair is held until its call is gone (HeldUntilGone: proofs/Gone.antt)
 --   one-side, setup-is-new, both-ones
 --   duplicate-ignored
---   no-status-for-status
+--   reply-kind, no-status-for-status
 --   permanent-stays
 -- Assumes nothing.
 use Prim.Native.Nat.{ℕ}
@@ -179,7 +179,7 @@ head-not-status t reading m e Ignored g = none-not-status
 head-not-status t reading m e (Is h) g = message-not-status t m h reading (ap (λ (k : Header). k .kind) (sym (head-is m h g)) ∙ e)
 
 -- octet 6 of a reply is its type
-reply-kind : (flag : Bool) (r : ℕ) (a : Reply) → getD (replyOctets flag r a) 5 0 ≡ kindOf a
+pub reply-kind : (flag : Bool) (r : ℕ) (a : Reply) → getD (replyOctets flag r a) 5 0 ≡ kindOf a
 reply-kind flag r reply.None = refl
 reply-kind flag r (reply.CallProceeding p v) = refl
 reply-kind flag r reply.Connect = refl

@@ -4,4 +4,3 @@ pub mod FixedAnswers
 pub mod Sound
 pub mod NoPair
 pub mod Slips
-pub mod Demands

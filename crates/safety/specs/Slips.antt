@@ -1,9 +1,9 @@
 -- "Slips we have seen" (document 01), each shut out by a statement.
---   HeldUntilGone, NotHandedOut, ReleasedHolds     "A pair freed when RELEASE is sent, not when the call is gone."
---   OneSide, SetupIsNew, BothOnes                  "Flag forgotten, so user reference 1 and network reference 1 become one call."
---   DuplicateIgnored                               "An ignored duplicate SETUP that takes a second pair."
---   NoStatusForStatus                              "STATUS answered with STATUS."
---   PermanentStays                                 "A permanent pair cleared by "all"."
+--   HeldUntilGone, ReleaseFreesNone, NotHandedOut, ReleasedHolds      "A pair freed when RELEASE is sent, not when the call is gone."
+--   OneSide, SetupIsNew, BothOnes                                     "Flag forgotten, so user reference 1 and network reference 1 become one call."
+--   DuplicateIgnored                                                  "An ignored duplicate SETUP that takes a second pair."
+--   NoStatusForStatus                                                 "STATUS answered with STATUS."
+--   PermanentStays                                                    "A permanent pair cleared by "all"."
 -- Assumes nothing.
 use Prim.Native.Nat.{ℕ}
 use mathlib.Core.Path.{_≡_}
@@ -50,6 +50,10 @@ pub record Went (o : Outcome) (i : ℕ) : Type 0 where
 -- by every event a live call keeps slot, reference and pair, or it is gone and the host is told
 abbrev pub HeldUntilGone : Table → Event → Type 0
 HeldUntilGone t e = (i : ℕ) (c : Call) → HasCall t i c → StillThere (happens t e .answer .table) i c ⊎ Went (happens t e) i
+
+-- by an event that sends RELEASE (clear, T310, a first T308) every live call keeps slot, reference and pair: octet 6 is the type
+abbrev pub ReleaseFreesNone : Table → Event → Type 0
+ReleaseFreesNone t e = getD (happens t e .reply) 5 0 ≡ 0x4D → (i : ℕ) (c : Call) → HasCall t i c → StillThere (happens t e .answer .table) i c
 
 -- the pair of a live call, in N12 as in every other state, is not the one that a new call gets
 abbrev pub NotHandedOut : Table → Type 0

@@ -3,7 +3,7 @@
 --   PhaseSound      a state with the side that began the call: its deadline, its cause
 --   CallSound       a live call: its pair is permitted, its reference is not the global one
 --   Sound           a table
---   InOctets, AllInOctets     events whose messages are octets, for the width of a call reference
+--   InOctets, AllInOctets     events that carry octets, for the width of what is sent again
 -- Assumes nothing.
 use Prim.Native.Nat.{ℕ, _+_, _≤_, _<_}
 use mathlib.Core.Path.{_≡_}
@@ -55,13 +55,13 @@ pub record Sound (t : Table) : Type 0 where
   -- no two live calls have one flagged reference
   pub reference-once : (i j : ℕ) (c d : Call) → HasCall t i c → HasCall t j d → c .network ≡ d .network → c .reference ≡ d .reference → i ≡ j
 
--- the numbers of a message are octets
+-- the numbers of a message, and of an offer's body, are octets
 abbrev pub InOctets : Event → Type 0
 InOctets (message label reading room octets) = (k : ℕ) → getD octets k 0 < 256
 InOctets (tick label reading room) = Unit {0}
 InOctets (connect label reading room slot) = Unit {0}
 InOctets (clear label reading room slot cause) = Unit {0}
-InOctets (offer label reading room body) = Unit {0}
+InOctets (offer label reading room body) = (k : ℕ) → getD body k 0 < 256
 
 abbrev pub AllInOctets : List Event → Type 0
 AllInOctets [] = Unit {0}

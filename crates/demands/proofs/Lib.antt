@@ -1,0 +1,3 @@
+pub mod Fitting
+pub mod Sent
+pub mod Demands
