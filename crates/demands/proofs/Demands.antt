@@ -16,6 +16,7 @@ use Rattle.safety.proofs.Refusals.{refusalOf}
 use Rattle.safety.proofs.FixedAnswers.{fixed-answer, number}
 use Rattle.safety.proofs.FixedStart.{fixed-start}
 use Rattle.safety.proofs.Sound.{reached-sound, never-shared, always-permitted, always-in-limits}
+use Rattle.safety.proofs.Flags.{flags-exact}
 use Rattle.safety.proofs.NoPair.{sent-exactly, no-pair-exactly}
 use Rattle.safety.proofs.Gone.{held-until-gone}
 use Rattle.safety.proofs.Release.{release-frees-none}
@@ -56,6 +57,7 @@ demand-one = record {
 pub demand-two : DemandTwo
 demand-two = record {
   sound = reached-sound;
+  flags-exact = λ t r e. flags-exact t e ((reached-sound t r) .has-slots);
   reads-back = every-reply-reads-back;
   writes-octets = every-reply-is-octets;
   writes-few = every-reply-is-short;

@@ -3,7 +3,7 @@
 --   HeaderFits, header-fits        what the header of octets says
 --   heard-writable, fired-writable, connected-writable, cleared-writable     of a message, a tick, connect and clear
 -- Assumes nothing.
-use Prim.Native.Nat.{ℕ, _+_, _*_, _-_, _%_, _<_}
+use Prim.Native.Nat.{ℕ, _-_, _<_}
 use mathlib.Core.Path.{_≡_, refl}
 use mathlib.Core.Bool.{Bool, true, false, not, _&&_, _||_}
 use mathlib.Core.List.{List}
@@ -44,8 +44,6 @@ use Rattle.elements.specs.Elements.{lookFor}
 use Rattle.elements.specs.Values.{read, causeIn, callStateIn, connectionIn, bearerIn, restartIn}
 use Rattle.replies.specs.declared.Diagnostic.{Diagnostic}
 use Rattle.replies.specs.declared.Diagnostic.the-variants as diagnostic
-use Rattle.replies.specs.declared.Cause.{Cause}
-use Rattle.replies.specs.declared.Reply.{Reply}
 use Rattle.replies.specs.declared.Reply.the-variants as reply
 use Rattle.readback.specs.ReadBack.{Octets}
 use Rattle.readback.specs.Replies.{FitsPair, FitsDiagnostic, FitsCause, Fitting}
@@ -72,6 +70,7 @@ use Rattle.safety.specs.Sound.{PhaseSound, in-N3, in-N6, in-N9, in-N10, by-host
 use Rattle.safety.proofs.Cases.{by-cond}
 use Rattle.safety.proofs.Cause45.{member-passes}
 use Rattle.safety.proofs.Happenings.{head-is}
+use Rattle.safety.proofs.References.{octets-fit}
 
 -- Causes and states.
 
@@ -189,9 +188,6 @@ admission-fits m from =
 pub record HeaderFits (h : Header) : Type 0 where
   pub reference : h .reference < 8388608
   pub kind : h .kind < 256
-
-octets-fit : (a b c : ℕ) → b < 256 → c < 256 → (a % 128) * 65536 + b * 256 + c < 8388608
-octets-fit a b c h k = omega arith
 
 header-fits : (m : List ℕ) → Octets m → HeaderFits (headerIn m)
 header-fits m o = record { reference = octets-fit (getD m 2 0) (getD m 3 0) (getD m 4 0) (o .at 3) (o .at 4); kind = o .at 5 }

@@ -6,7 +6,7 @@
 -- Assumes nothing.
 use Prim.Native.Nat.{ℕ, _≤_, _<_}
 use mathlib.Core.Path.{_≡_, refl, ap}
-use mathlib.Core.Bool.{Bool, true, false, cond, _&&_}
+use mathlib.Core.Bool.{true, cond}
 use mathlib.Core.List.{List}
 use native.Mathlib.Omega.{arith}
 use lib.Dec.{eqb, ltb}
@@ -20,7 +20,6 @@ use Rattle.calls.specs.declared.Found.the-variants.{Nothing, At}
 use Rattle.calls.specs.First.{place}
 use Rattle.calls.specs.Calls.{isEmpty, unusedReference}
 use Rattle.calls.specs.Timers.{nextDue}
-use Rattle.calls.proofs.Unused.{unused-found}
 use Rattle.header.specs.Header.{headOf}
 use Rattle.elements.specs.Elements.{wholeFrom}
 use Rattle.replies.specs.Reply.{isSilent, meant}
@@ -37,13 +36,12 @@ use Rattle.control.specs.Refusals.{orElse, holdAt, bodyRefusal, slotRefusal, pa
 use Rattle.control.specs.Outcome.{effectReply}
 use Rattle.control.specs.Events.{heardBy, connected, cleared, offeredOn, offered}
 use Rattle.control.specs.Reached.{Event, message, tick, connect, clear, offer, happens, Reached}
-use Rattle.safety.specs.Tables.{HasSlots}
 use Rattle.safety.specs.Sound.{Sound, InOctets, AllInOctets, ReferencesFit}
 use Rattle.safety.proofs.Refusals.{commonOf, ownOf, refusalOf, or-else-both}
 use Rattle.safety.proofs.FixedAnswers.{outcomeOf, accepted-reply, refused-reply, number}
 use Rattle.safety.proofs.Happenings.{accepted-host}
 use Rattle.safety.proofs.Sound.{reached-sound}
-use Rattle.safety.proofs.References.{reached-fits}
+use Rattle.safety.proofs.References.{unused-fits, reached-fits}
 use Rattle.demands.specs.Sent.{Sent, nothing, readAs, readBack, replyMeant, offerMeant, acceptedMeant, meantBy}
 use Rattle.demands.proofs.Fitting.{Writable, heard-writable, fired-writable, connected-writable, cleared-writable}
 
@@ -83,9 +81,6 @@ body-offered body o e =
 module _ (t : Table) (reading : ℕ) (body : List ℕ) where
   abbrev new : ℕ
   new = unusedReference (t .slots .all)
-
-  new-fits : HasSlots t → new < 8388608
-  new-fits w = let u = unused-found (length (t .slots .all)) 1 (t .slots .all) in omega (arith, w, u .high)
 
   offered-on-back : OfferBody body → new < 8388608 → (i : ℕ) (c : Channel) → Back (offeredOn t reading body i c .reply) (offerMeant t body c)
   offered-on-back b small i None = record { same = refl; in-octets = no-octets }
@@ -127,7 +122,7 @@ accepted-back t (clear label reading room slot cause) s f o h =
     (cleared-writable t f reading slot cause (holdAt t slot) refl (accepted-host t label reading room slot cause h))
 accepted-back t (offer label reading room body) s f o h =
     let passed = offer-passes t label reading room body h in
-    offered-back t reading body (body-offered body (record { at = o }) (passed .0)) (new-fits t reading body (s .has-slots)) (place isEmpty (t .slots .all)) (passed .1)
+    offered-back t reading body (body-offered body (record { at = o }) (passed .0)) (unused-fits t (s .has-slots)) (place isEmpty (t .slots .all)) (passed .1)
 
 accepted-short : (t : Table) (e : Event) → refusalOf t e ≡ 0 → length (outcomeOf t e .reply) ≤ 1024
 accepted-short t (message label reading room octets) h = effect-short (heardBy t reading octets (headOf octets))

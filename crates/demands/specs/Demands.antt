@@ -21,6 +21,7 @@ use Rattle.independence.specs.Leaning.{setup, release, enquiry, onePair, held, 
 use Rattle.safety.specs.Tables.{HasCall}
 use Rattle.safety.specs.FixedAnswers.{labelOf, readingOf, roomOf, FixedAnswer, FixedStart}
 use Rattle.safety.specs.Sound.{Sound, InOctets, AllInOctets}
+use Rattle.safety.specs.Flags.{FlagsExact}
 use Rattle.safety.specs.NoPair.{NoPairExactly, SentExactly}
 use Rattle.safety.specs.Slips.{HeldUntilGone, ReleaseFreesNone, NotHandedOut, ReleasedHolds, OneSide, SetupIsNew, BothOnes, DuplicateIgnored, NoStatusForStatus, PermanentStays}
 use Rattle.demands.specs.Sent.{readBack, meantBy}
@@ -46,6 +47,8 @@ pub record DemandOne : Type 0 where
 pub record DemandTwo : Type 0 where
   -- each state with its timer and cause, and each channel
   pub sound : (t : Table) → Reached t → Sound t
+  -- each notice with its flags: "naming exactly the slots meant"
+  pub flags-exact : (t : Table) → Reached t → (e : Event) → FlagsExact t e
   -- "What we write reads back as the same message.": where the messages and the offers' bodies were octets
   pub reads-back : (t : Table) (r : Reached t) → AllInOctets (r .events) → (e : Event) → InOctets e → readBack (happens t e .reply) ≡ meantBy t e
   pub writes-octets : (t : Table) (r : Reached t) → AllInOctets (r .events) → (e : Event) → InOctets e → Octets (happens t e .reply)

@@ -15,3 +15,4 @@ pub mod NoPair
 pub mod Gone
 pub mod Slips
 pub mod Release
+pub mod Flags

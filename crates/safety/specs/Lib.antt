@@ -4,3 +4,4 @@ pub mod FixedAnswers
 pub mod Sound
 pub mod NoPair
 pub mod Slips
+pub mod Flags

@@ -4,6 +4,7 @@
 //   specs/FixedAnswers.antt     demand 1: the table of refusal numbers, what a refusal leaves, what start accepts
 //   specs/Sound.antt            what is so of every table that is reached: no pair twice, each permitted, each state with its deadline
 //   specs/NoPair.antt           demand 2: cause 45 exactly
+//   specs/Flags.antt            each notice with its flags, "naming exactly the slots meant"
 //   specs/Slips.antt            the slips, each shut out
 //   proofs/                     one file for each of these; crate `demands` gathers what they prove
 //   proofs/Sound.antt           `reached-sound`, from which saving and reading back start; proofs/References.antt the width of a reference

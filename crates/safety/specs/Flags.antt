@@ -1,0 +1,64 @@
+-- "With 1 to 3 go thirty-two flags, one for each slot, naming exactly the slots meant; with 0 none is set." (document 01)
+--   flagOf                               the flag of a slot
+--   CallAsked, CallAnswered, CallGone    what a flag says of its slot: "1 call asked, 2 call answered, 3 calls gone"
+--   OneFlag                              one flag alone is set, that of the one slot meant
+--   NamesExactly                         a notice and flags say what became of the slots
+--   FlagsExact                           of an event on a table
+-- Assumes nothing.
+use Prim.Native.Nat.{ℕ, _≤_}
+use mathlib.Core.Path.{_≡_}
+use mathlib.Core.Logic.{_≢_}
+use mathlib.Core.Bool.{Bool, true, false}
+use lib.ListN.{length, getD}
+use Rattle.calls.specs.declared.Phase.the-variants.{N10}
+use Rattle.calls.specs.declared.Call.{Call}
+use Rattle.calls.specs.declared.Flags.{Flags}
+use Rattle.calls.specs.Calls.{moved, noSlot}
+use Rattle.effects.specs.declared.Table.{Table}
+use Rattle.effects.specs.Effect.{slotCount}
+use Rattle.control.specs.Reached.{Event, happens}
+use Rattle.safety.specs.Tables.{slotAt, HasCall}
+
+abbrev pub flagOf : Flags → ℕ → Bool
+flagOf f i = getD (f .on) i false
+
+-- t is the table before, u the one after
+
+-- a call was put into the empty slot i
+pub record CallAsked (t u : Table) (i : ℕ) : Type 0 where
+  pub call : Call
+  pub before : slotAt t i ≡ noSlot
+  pub after : HasCall u i call
+
+-- the call of slot i went to N10
+pub record CallAnswered (t u : Table) (i : ℕ) : Type 0 where
+  pub call : Call
+  pub before : HasCall t i call
+  pub waiting : call .phase ≢ N10
+  pub after : HasCall u i (moved call N10)
+
+-- slot i held a call and is empty
+pub record CallGone (t u : Table) (i : ℕ) : Type 0 where
+  pub call : Call
+  pub before : HasCall t i call
+  pub after : slotAt u i ≡ noSlot
+
+pub record OneFlag (f : Flags) (Meant : ℕ → Type 0) : Type 0 where
+  pub slot : ℕ
+  pub meant : Meant slot
+  pub no-other : (j : ℕ) → Meant j → j ≡ slot
+  pub set : flagOf f slot ≡ true
+  pub none-else : (j : ℕ) → j ≢ slot → flagOf f j ≡ false
+
+pub record NamesExactly (t u : Table) (notice : ℕ) (f : Flags) : Type 0 where
+  pub thirty-two : length (f .on) ≡ slotCount
+  pub most : notice ≤ 3
+  pub with-0 : notice ≡ 0 → (i : ℕ) → flagOf f i ≡ false
+  pub with-1 : notice ≡ 1 → OneFlag f (CallAsked t u)
+  pub with-2 : notice ≡ 2 → OneFlag f (CallAnswered t u)
+  pub with-3 : notice ≡ 3 → (i : ℕ) → flagOf f i ≡ true → CallGone t u i
+  pub with-3-all : notice ≡ 3 → (i : ℕ) → CallGone t u i → flagOf f i ≡ true
+  pub with-3-some : notice ≡ 3 → (i : ℕ) × (flagOf f i ≡ true)
+
+abbrev pub FlagsExact : Table → Event → Type 0
+FlagsExact t e = NamesExactly t (happens t e .answer .table) (happens t e .answer .notice) (happens t e .answer .flags)
