@@ -33,17 +33,17 @@ value-grows (o ∷ os) v = omega (arith, value-grows os (v * 10 + (o - 48)))
 pub number-more : (v o m : ℕ) (os : List ℕ) → Is m ≡ withDigit v o → (numberFrom v (o ∷ os) ≡ numberFrom m os) × (m ≤ 18446744073709551615)
 number-more v o m os h = by-test (isDigit o)
     (λ e. by-test (leb (v * 10 + (o - 48)) 18446744073709551615)
-      (λ f. let q : v * 10 + (o - 48) ≡ m = number-is (sym (rw (e, f) at h)) in (rw (e, q), rw q at (leb-true (v * 10 + (o - 48)) 18446744073709551615 f)))
-      (λ f. bad-is (sym (rw (e, f) at h))))
+    (λ f. let q : v * 10 + (o - 48) ≡ m = number-is (sym (rw (e, f) at h)) in (rw (e, q), rw q at (leb-true (v * 10 + (o - 48)) 18446744073709551615 f)))
+    (λ f. bad-is (sym (rw (e, f) at h))))
     (λ e. bad-is (sym (rw e at h)))
 
 pub number-bad : (v o : ℕ) (os : List ℕ) → Bad ≡ withDigit v o → Bad ≡ numberFrom v (o ∷ os)
 number-bad v o os h = by-test (isDigit o)
     (λ e. by-test (leb (v * 10 + (o - 48)) 18446744073709551615)
-      (λ f. bad-is (rw (e, f) at h))
-      (λ f.
-        let big : 18446744073709551615 < valueFrom (v * 10 + (o - 48)) os = omega (arith, leb-false (v * 10 + (o - 48)) 18446744073709551615 f, value-grows os (v * 10 + (o - 48))) in
-        by-test (allDigits os) (λ g. rw (e, g, lt-leb _ _ big)) (λ g. rw (e, g))))
+    (λ f. bad-is (rw (e, f) at h))
+    (λ f.
+    let big : 18446744073709551615 < valueFrom (v * 10 + (o - 48)) os = omega (arith, leb-false (v * 10 + (o - 48)) 18446744073709551615 f, value-grows os (v * 10 + (o - 48))) in
+    by-test (allDigits os) (λ g. rw (e, g, lt-leb _ _ big)) (λ g. rw (e, g))))
     (λ e. rw e)
 
 pub number-end : (v : ℕ) → v ≤ 18446744073709551615 → Is v ≡ numberFrom v []

@@ -8,16 +8,16 @@
 // Assumes nothing.
 mod decimal;
 mod hex;
-mod words;
 mod start;
+mod words;
 
-pub use start::List;
-pub use start::Lists;
-pub use start::read_lists;
 pub use decimal::Number;
 pub use decimal::read_number;
 pub use hex::Octets;
 pub use hex::read_octets;
+pub use start::List;
+pub use start::Lists;
+pub use start::read_lists;
 use words::Field;
 use words::Kind;
 use words::Word;

@@ -63,9 +63,13 @@ loop-again : tie.Need-loop-again Inv-loop μ-loop
 loop-again c =
     let l = c .before .before .before .before .before in
     let a = l .before .before .before .args in
-    let e = c .before .hex-pair .ensures in
-    (search needs, search needs, search needs, search needs,
-    rw e (read-more (a .n) (a .word .now) (a .room .now) (l .loop .room) (l .loop .i) (l .loop .inv .4) (omega arith) (rw (← e) (c .if1 .left))))
+    let e = c .before .hex-pair .ensures in (
+      search needs,
+      search needs,
+      search needs,
+      search needs,
+      rw e (read-more (a .n) (a .word .now) (a .room .now) (l .loop .room) (l .loop .i) (l .loop .inv .4) (omega arith) (rw (← e) (c .if1 .left))),
+    )
 
 same-length-2 : tie.Need-same-length-2 Inv-loop μ-loop
 same-length-2 c = search needs

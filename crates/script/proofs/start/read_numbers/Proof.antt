@@ -33,9 +33,10 @@ returns : tie.Need-returns Inv-loop μ-loop
 returns c =
     let l = c .before .before .before .before .before in
     let a = l .before .before .args in
-    let b = c .bad-list .ensures in
-    (b ∙ sym (l .loop .inv .3 ∙ numbers-bad (a .line .now) (l .loop .end) (l .loop .i) (a .n) (l .loop .numbers) (omega arith) (sym (c .before .before .before .read-field .ensures) ∙ c .before .enum-told .given .1)),
-    rw b (omega arith))
+    let b = c .bad-list .ensures in (
+      b ∙ sym (l .loop .inv .3 ∙ numbers-bad (a .line .now) (l .loop .end) (l .loop .i) (a .n) (l .loop .numbers) (omega arith) (sym (c .before .before .before .read-field .ensures) ∙ c .before .enum-told .given .1)),
+      rw b (omega arith),
+    )
 
 enum-known-value : tie.Need-enum-known-value Inv-loop μ-loop
 enum-known-value c = search needs
@@ -47,9 +48,10 @@ returns-2 : tie.Need-returns-2 Inv-loop μ-loop
 returns-2 c =
     let l = c .before .before .before .before .before .before .before in
     let a = l .before .before .args in
-    let b = c .bad-list2 .ensures in
-    (b ∙ sym (l .loop .inv .3 ∙ numbers-over (a .line .now) (l .loop .end) (l .loop .i) (a .n) (l .loop .numbers) (omega arith) _ _ (sym (c .before .before .before .before .before .read-field .ensures) ∙ c .before .before .before .value .given .1) (c .before .if1 .taken)),
-    rw b (omega arith))
+    let b = c .bad-list2 .ensures in (
+      b ∙ sym (l .loop .inv .3 ∙ numbers-over (a .line .now) (l .loop .end) (l .loop .i) (a .n) (l .loop .numbers) (omega arith) _ _ (sym (c .before .before .before .before .before .read-field .ensures) ∙ c .before .before .before .value .given .1) (c .before .if1 .taken)),
+      rw b (omega arith),
+    )
 
 cast-numbers : tie.Need-cast-numbers Inv-loop μ-loop
 cast-numbers c = search needs
@@ -69,9 +71,12 @@ loop-less c = search needs
 loop-again : tie.Need-loop-again Inv-loop μ-loop
 loop-again c =
     let l = c .before .before .before .before .before .before in
-    let a = l .before .before .args in
-    (search needs, search needs, search needs,
-    l .loop .inv .3 ∙ numbers-more (a .line .now) (l .loop .end) (l .loop .i) (a .n) (l .loop .numbers) (omega arith) _ _ (sym (c .before .before .before .before .read-field .ensures) ∙ c .before .before .value .given .1) (c .if1 .left))
+    let a = l .before .before .args in (
+      search needs,
+      search needs,
+      search needs,
+      l .loop .inv .3 ∙ numbers-more (a .line .now) (l .loop .end) (l .loop .i) (a .n) (l .loop .numbers) (omega arith) _ _ (sym (c .before .before .before .before .read-field .ensures) ∙ c .before .before .value .given .1) (c .if1 .left),
+    )
 
 returns-3 : tie.Need-returns-3 Inv-loop μ-loop
 returns-3 c =
