@@ -1,0 +1,49 @@
+-- `answers::put_flags` meets its contract: the numbers, or what stands for none. Assumes nothing.
+use borrow.Author.Needs.{needs}
+use native.Mathlib.Omega.{arith}
+use mathlib.Core.Path.{_≡_, refl, sym, _∙_}
+use Rattle.answers.specs.Text.{slotsText}
+use mathlib.Core.Bool.{true}
+use Rattle.answers.proofs.Texts.{none-joined, some-joined}
+use Rattle.answers.proofs.put_flags.Statement.{statement}
+use Rattle.answers.proofs.put_flags.Tie as tie
+
+put-slots-requires : tie.Need-put-slots-requires
+put-slots-requires c κs = search needs
+
+slice-aggregate-put : tie.Need-slice-aggregate-put
+slice-aggregate-put c = search needs
+
+put-requires : tie.Need-put-requires
+put-requires c κs = search needs
+
+same-length : tie.Need-same-length
+same-length c = search needs
+
+returns : tie.Need-returns
+returns c =
+    let a = c .before .before .before .before .before .before .before .before .before .before .before .args in
+    let w = c .before .before .before .before .before .before .before .before .put-slots .ensures .0 in
+    let e = none-joined (slotsText 0 true (a .flags .on)) (a .out .now) (a .at) _ _ w (c .before .before .before .before .before .if1 .taken) in
+    (rw (e .0, ← e .1) (c .before .before .put .ensures .1), (omega arith, omega arith))
+
+same-length-2 : tie.Need-same-length-2
+same-length-2 c = search needs
+
+returns-2 : tie.Need-returns-2
+returns-2 c =
+    let a = c .before .before .before .before .before .before .args in
+    let w = c .before .before .before .put-slots .ensures in
+    (rw (some-joined (slotsText 0 true (a .flags .on)) (a .out .now) (a .at) _ _ (w .0) (c .if1 .left)) (w .0), w .1)
+
+pub put-flags-spec : {M : Type 1} → statement M
+put-flags-spec =
+    tie.close
+    (tie.spec
+    put-slots-requires
+    slice-aggregate-put
+    put-requires
+    same-length
+    returns
+    same-length-2
+    returns-2)
