@@ -1,18 +1,20 @@
 #!/bin/sh
-# Instructions and time for each event of a standard life of a call, for the
-# proved controller and for the reference implementation, in one run.
-# usage: bench.sh LIVES            LIVES: the program that `rt check lives` makes
+# Instructions and time for each event of a standard life of a call, and events
+# a second of a long script, for the proved controller and for the reference
+# implementation, in one run.
+# usage: bench.sh LIVES EXCHANGE   the programs that `rt check lives exchange` makes
 set -eu
 export LC_ALL=C
 
-if [ $# -ne 1 ]; then
-    echo "usage: bench.sh LIVES" >&2
+if [ $# -ne 2 ]; then
+    echo "usage: bench.sh LIVES EXCHANGE" >&2
     exit 2
 fi
 proved=$1
 here=$(dirname "$0")
 cargo build --offline --release --quiet --manifest-path "$here/Cargo.toml"
-reference=$here/target/release/lives
+tools=$here/target/release
+reference=$tools/lives
 work=$(mktemp -d)
 trap 'rm -rf "$work"' EXIT
 
@@ -59,3 +61,20 @@ done
 for ranges in 2 4; do
     row "user call, 4 events" 0 31 $ranges 4
 done
+
+# events a second on a script of a million events, the best of three runs
+speed() {
+    for run in 1 2 3; do
+        from=$(date +%s%N)
+        "$1" <"$work/script" >/dev/null
+        to=$(date +%s%N)
+        echo $((to - from))
+    done | sort -n | awk 'NR == 1 { printf "%d", 1000000 / ($1 / 1e9) }'
+}
+
+"$tools/generate" 5 1000000 >"$work/script"
+echo
+echo '| a script of 1,000,000 events | events a second |'
+echo '|---|---|'
+printf '| exchange | %s |\n' "$(speed "$2")"
+printf '| reference | %s |\n' "$(speed "$tools/reference")"
