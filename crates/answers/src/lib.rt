@@ -27,7 +27,7 @@ fn glyph(n: u8) -> u8
 pub fn put_decimal(out: &mut [u8], at: usize, n: u8) -> usize
     requires { ⌜ at + 3 ≤ length (now out) ⌝ }
     ensures { λ r. ⌜ Wrote (now (out .entry)) at (decimalText n) (now (out .exit)) r ⌝ }
-    ensures short { λ r. ⌜ (at < r) × (r ≤ at + 3) ⌝ }
+    ensures short { λ r. ⌜ (r ≡ at + length (decimalText n)) × (at < r) × (r ≤ at + 3) ⌝ }
 {
     if n < 10 {
         return octets::put(out, at, &[48 + n]);
@@ -59,7 +59,7 @@ fn put_digits(out: &mut [u8], at: usize, reply: &[u8]) -> usize
 pub fn put_hex(out: &mut [u8], at: usize, reply: &[u8]) -> usize
     requires { ⌜ at + 1 + 2 * length (now reply) ≤ length (now out) ⌝ }
     ensures { λ r. ⌜ Wrote (now (out .entry)) at (replyText (now (reply .entry))) (now (out .exit)) r ⌝ }
-    ensures short { λ r. ⌜ (at ≤ r) × (r ≤ at + 1 + 2 * length (now (reply .entry))) ⌝ }
+    ensures short { λ r. ⌜ (r ≡ at + length (replyText (now (reply .entry)))) × (at ≤ r) × (r ≤ at + 1 + 2 * length (now (reply .entry))) ⌝ }
 {
     if reply.len() == 0 {
         return octets::put(out, at, b"-");
@@ -111,7 +111,7 @@ fn put_slots(out: &mut [u8], at: usize, flags: Flags) -> usize
 pub fn put_flags(out: &mut [u8], at: usize, flags: Flags) -> usize
     requires { ⌜ at + 128 ≤ length (now out) ⌝ }
     ensures { λ r. ⌜ Wrote (now (out .entry)) at (flagsText (flags .on)) (now (out .exit)) r ⌝ }
-    ensures short { λ r. ⌜ (at ≤ r) × (r ≤ at + 128) ⌝ }
+    ensures short { λ r. ⌜ (r ≡ at + length (flagsText (flags .on))) × (at ≤ r) × (r ≤ at + 128) ⌝ }
 {
     let end = put_slots(out, at, flags);
     if end == at {
@@ -166,7 +166,7 @@ pub fn put_answer(
 ) -> usize
     requires { ⌜ at + 160 + 2 * length (now reply) ≤ length (now out) ⌝ }
     ensures { λ r. ⌜ Wrote (now (out .entry)) at (answerText refusal (now (reply .entry)) notice (flags .on) more) (now (out .exit)) r ⌝ }
-    ensures short { λ r. ⌜ (at ≤ r) × (r ≤ at + 160 + 2 * length (now (reply .entry))) ⌝ }
+    ensures short { λ r. ⌜ (r ≡ at + length (answerText refusal (now (reply .entry)) notice (flags .on) more)) × (at ≤ r) × (r ≤ at + 160 + 2 * length (now (reply .entry))) ⌝ }
 {
     let next = put_reply(out, at, refusal, reply);
     put_notice(out, next, notice, flags, more)

@@ -15,7 +15,9 @@ same-length : tie.Need-same-length
 same-length c = search needs
 
 returns : tie.Need-returns
-returns c = (chain (c .before .before .before .before .before .before .put-reply .ensures .0) (c .before .before .put-notice .ensures .0), (omega arith, omega arith))
+returns c =
+    let w = chain (c .before .before .before .before .before .before .put-reply .ensures .0) (c .before .before .put-notice .ensures .0) in
+    (w, (w .past, omega arith, omega arith))
 
 pub put-answer-spec : {M : Type 1} → statement M
 put-answer-spec = tie.close (tie.spec put-reply-requires put-notice-requires same-length returns)

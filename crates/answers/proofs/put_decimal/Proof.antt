@@ -18,7 +18,7 @@ same-length : tie.Need-same-length
 same-length c = search needs
 
 returns : tie.Need-returns
-returns c = let p = c .before .before .put .ensures in (rw (lt-ltb _ _ (c .before .before .before .before .before .if1 .taken)) (p .1), (omega arith, omega arith))
+returns c = let p = c .before .before .put .ensures in (rw (lt-ltb _ _ (c .before .before .before .before .before .if1 .taken)) (p .1), (rw (lt-ltb _ _ (c .before .before .before .before .before .if1 .taken)) (p .0), omega arith, omega arith))
 
 add-t15 : tie.Need-add-t15
 add-t15 c = search needs
@@ -36,7 +36,7 @@ same-length-2 : tie.Need-same-length-2
 same-length-2 c = search needs
 
 returns-2 : tie.Need-returns-2
-returns-2 c = let p = c .before .before .put2 .ensures in (rw (le-ltb _ _ (c .before .before .before .before .before .before .if1 .left), lt-ltb _ _ (c .before .before .before .before .before .if2 .taken)) (p .1), (omega arith, omega arith))
+returns-2 c = let p = c .before .before .put2 .ensures in (rw (le-ltb _ _ (c .before .before .before .before .before .before .if1 .left), lt-ltb _ _ (c .before .before .before .before .before .if2 .taken)) (p .1), (rw (le-ltb _ _ (c .before .before .before .before .before .before .if1 .left), lt-ltb _ _ (c .before .before .before .before .before .if2 .taken)) (p .0), omega arith, omega arith))
 
 add-t24 : tie.Need-add-t24
 add-t24 c = search needs
@@ -57,7 +57,7 @@ same-length-3 : tie.Need-same-length-3
 same-length-3 c = search needs
 
 returns-3 : tie.Need-returns-3
-returns-3 c = let p = c .before .before .put3 .ensures in (rw (le-ltb _ _ (c .before .before .before .before .before .before .if1 .left), le-ltb _ _ (c .before .before .before .before .before .if2 .left)) (p .1), (omega arith, omega arith))
+returns-3 c = let p = c .before .before .put3 .ensures in (rw (le-ltb _ _ (c .before .before .before .before .before .before .if1 .left), le-ltb _ _ (c .before .before .before .before .before .if2 .left)) (p .1), (rw (le-ltb _ _ (c .before .before .before .before .before .before .if1 .left), le-ltb _ _ (c .before .before .before .before .before .if2 .left)) (p .0), omega arith, omega arith))
 
 pub put-decimal-spec : {M : Type 1} → statement M
 put-decimal-spec =

@@ -25,7 +25,7 @@ returns c =
     let a = c .before .before .before .before .before .before .before .before .before .before .before .args in
     let w = c .before .before .before .before .before .before .before .before .put-slots .ensures .0 in
     let e = none-joined (slotsText 0 true (a .flags .on)) (a .out .now) (a .at) _ _ w (c .before .before .before .before .before .if1 .taken) in
-    (rw (e .0, ← e .1) (c .before .before .put .ensures .1), (omega arith, omega arith))
+    (rw (e .0, ← e .1) (c .before .before .put .ensures .1), (rw (e .0) (c .before .before .put .ensures .0), omega arith, omega arith))
 
 same-length-2 : tie.Need-same-length-2
 same-length-2 c = search needs
@@ -34,7 +34,7 @@ returns-2 : tie.Need-returns-2
 returns-2 c =
     let a = c .before .before .before .before .before .before .args in
     let w = c .before .before .before .put-slots .ensures in
-    (rw (some-joined (slotsText 0 true (a .flags .on)) (a .out .now) (a .at) _ _ (w .0) (c .if1 .left)) (w .0), w .1)
+    (rw (some-joined (slotsText 0 true (a .flags .on)) (a .out .now) (a .at) _ _ (w .0) (c .if1 .left)) (w .0), (rw (some-joined (slotsText 0 true (a .flags .on)) (a .out .now) (a .at) _ _ (w .0) (c .if1 .left)) (w .0 .past), omega arith, omega arith))
 
 pub put-flags-spec : {M : Type 1} → statement M
 put-flags-spec =

@@ -15,7 +15,7 @@ same-length : tie.Need-same-length
 same-length c = search needs
 
 returns : tie.Need-returns
-returns c = let p = c .before .before .put .ensures in (rw (eq-eqb _ _ (c .before .before .before .before .before .if1 .taken)) (p .1), (omega arith, omega arith))
+returns c = let p = c .before .before .put .ensures in (rw (eq-eqb _ _ (c .before .before .before .before .before .if1 .taken)) (p .1), (rw (eq-eqb _ _ (c .before .before .before .before .before .if1 .taken)) (p .0), omega arith, omega arith))
 
 put-digits-requires : tie.Need-put-digits-requires
 put-digits-requires c κs = search needs
@@ -24,7 +24,7 @@ same-length-2 : tie.Need-same-length-2
 same-length-2 c = search needs
 
 returns-2 : tie.Need-returns-2
-returns-2 c = let p = c .before .before .put-digits .ensures in (rw (ne-eqb _ _ (c .before .before .before .before .if1 .left)) (p .0), (omega arith, omega arith))
+returns-2 c = let p = c .before .before .put-digits .ensures in (rw (ne-eqb _ _ (c .before .before .before .before .if1 .left)) (p .0), (rw (ne-eqb _ _ (c .before .before .before .before .if1 .left)) (p .0 .past), omega arith, omega arith))
 
 pub put-hex-spec : {M : Type 1} → statement M
 put-hex-spec =

@@ -12,7 +12,7 @@ same-length : tie.Need-same-length
 same-length c = search needs
 
 returns : tie.Need-returns
-returns c = let p = c .before .before .put-decimal .ensures in (rw (c .before .before .before .before .if1 .taken) (p .0), (p .1 .0, omega arith))
+returns c = let p = c .before .before .put-decimal .ensures in (rw (c .before .before .before .before .if1 .taken) (p .0), (p .1 .1, omega arith))
 
 slice-aggregate-put : tie.Need-slice-aggregate-put
 slice-aggregate-put c = search needs
