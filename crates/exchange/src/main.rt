@@ -16,17 +16,18 @@ ghost use Rattle.exchange.specs.Desk.{Tidy};
 // The pattern that the reply room is filled with.
 const PATTERN: u8 = 0xA5;
 
-// The table, if a start was accepted (`live`); how many octets of the output and of the line buffer are filled; if the input goes on.
+// The table, if a start was accepted (`live`); if answers are explained; if the input goes on; how many octets of the output and of the line buffer are filled.
 struct Desk {
     table: Table,
     live: bool,
+    explains: bool,
     open: bool,
     used: usize,
     held: usize,
 }
 
 impl Desk {
-    fn new() -> Desk
+    fn new(explains: bool) -> Desk
         ensures { λ r. ⌜ Tidy r ⌝ }
     {
         let started = control::start(&[], &[]);
@@ -34,6 +35,7 @@ impl Desk {
         Desk {
             table: table,
             live: false,
+            explains: explains,
             open: true,
             used: 0,
             held: 0,
@@ -120,23 +122,46 @@ fn flush(out: &[u8], used: usize) -> bool
 // Makes room for an answer: writes the buffer out if it is nearly full.
 fn cleared(out: &[u8], used: usize) -> usize
     requires { ⌜ used ≤ length (now out) ⌝ }
-    ensures { λ r. ⌜ r ≤ 49152 ⌝ }
+    ensures { λ r. ⌜ r ≤ 32768 ⌝ }
 {
-    if used <= 49152 {
+    if used <= 32768 {
         return used;
     }
     flush(out, used);
     0
 }
 
-// Says a line.
-fn say(desk: Desk, text: &[u8], out: &mut [u8]) -> Desk
-    requires { ⌜ (length (now out) ≡ 65536) × (length (now text) ≤ 16) × Tidy desk ⌝ }
+// Says a line, and explains it if that is asked for.
+fn say(desk: Desk, text: &[u8], note: &[u8], out: &mut [u8]) -> Desk
+    requires { ⌜ (length (now out) ≡ 65536) × (length (now text) ≤ 16) × (length (now note) ≤ 64) × Tidy desk ⌝ }
     ensures { λ r. ⌜ Tidy r ⌝ }
 {
     let at = cleared(out, desk.used);
     let used = octets::put(out, at, text);
+    if desk.explains {
+        let noted = octets::put(out, used, note);
+        return desk.filled(noted);
+    }
     desk.filled(used)
+}
+
+fn say_bad_line(desk: Desk, out: &mut [u8]) -> Desk
+    requires { ⌜ (length (now out) ≡ 65536) × Tidy desk ⌝ }
+    ensures { λ r. ⌜ Tidy r ⌝ }
+{
+    say(desk, b"bad line\n", b"# the line cannot be read\n", out)
+}
+
+fn say_touched(desk: Desk, out: &mut [u8]) -> Desk
+    requires { ⌜ (length (now out) ≡ 65536) × Tidy desk ⌝ }
+    ensures { λ r. ⌜ Tidy r ⌝ }
+{
+    say(
+        desk,
+        b"room touched\n",
+        b"# the room behind the reply was touched\n",
+        out,
+    )
 }
 
 // If each octet of a room behind the reply still has the pattern.
@@ -165,29 +190,68 @@ fn ask(table: Table, clock: Clock, request: Request, octets: &[u8], room: &mut [
     }
 }
 
+// Explains an answer, if that is asked for.
+fn explain_answer(
+    desk: Desk,
+    answer: Answer,
+    request: Request,
+    octets: &[u8],
+    reply: &[u8],
+    out: &mut [u8],
+    at: usize,
+) -> usize
+    requires { ⌜ (length (now out) ≡ 65536) × (at ≤ 50000) × Asks request (length (now octets)) ⌝ }
+    ensures { λ r. ⌜ r ≤ 65536 ⌝ }
+{
+    if !desk.explains {
+        return at;
+    }
+    let before = desk.table;
+    let after = answer.table;
+    let old = before.slots;
+    let new = after.slots;
+    explain::put_line(out, at, request, octets, answer.refusal, reply, old, new)
+}
+
+// Writes an answer and its explanation.
+fn write_answer(
+    desk: Desk,
+    answer: Answer,
+    request: Request,
+    octets: &[u8],
+    reply: &[u8],
+    out: &mut [u8],
+) -> usize
+    requires { ⌜ (length (now out) ≡ 65536) × (length (now reply) ≤ 4096) × Asks request (length (now octets)) × Tidy desk ⌝ }
+    ensures { λ r. ⌜ r ≤ 65536 ⌝ }
+{
+    let at = cleared(out, desk.used);
+    let flags = answer.flags;
+    let refusal = answer.refusal;
+    let next = answers::put_answer(out, at, refusal, reply, answer.notice, flags, answer.more);
+    explain_answer(desk, answer, request, octets, reply, out, next)
+}
+
 // Writes an answer; what lies behind the reply must be untouched.
-fn tell(desk: Desk, answer: Answer, room: &[u8], out: &mut [u8]) -> Desk
-    requires { ⌜ (length (now out) ≡ 65536) × (length (now room) ≤ 4096) × Tidy desk ⌝ }
+fn tell(
+    desk: Desk,
+    answer: Answer,
+    request: Request,
+    octets: &[u8],
+    room: &[u8],
+    out: &mut [u8],
+) -> Desk
+    requires { ⌜ (length (now out) ≡ 65536) × (length (now room) ≤ 4096) × Asks request (length (now octets)) × Tidy desk ⌝ }
     ensures { λ r. ⌜ Tidy r ⌝ }
 {
     let length = answer.length;
     if room.len() < length {
-        return say(desk, b"room touched\n", out);
+        return say_touched(desk, out);
     }
     if !untouched(room, length) {
-        return say(desk, b"room touched\n", out);
+        return say_touched(desk, out);
     }
-    let at = cleared(out, desk.used);
-    let flags = answer.flags;
-    let used = answers::put_answer(
-        out,
-        at,
-        answer.refusal,
-        &room[0..length],
-        answer.notice,
-        flags,
-        answer.more,
-    );
+    let used = write_answer(desk, answer, request, octets, &room[0..length], out);
     let table = answer.table;
     desk.answered(table, used)
 }
@@ -206,7 +270,7 @@ fn respond(
 {
     let table = desk.table;
     let answer = ask(table, clock, request, octets, room);
-    tell(desk, answer, room, out)
+    tell(desk, answer, request, octets, room, out)
 }
 
 // One event, in a room with the pattern in all of it.
@@ -215,7 +279,7 @@ fn handle(desk: Desk, clock: Clock, request: Request, octets: &[u8], out: &mut [
     ensures { λ r. ⌜ Tidy r ⌝ }
 {
     if !desk.live {
-        return say(desk, b"no table\n", out);
+        return say(desk, b"no table\n", b"# no start was accepted\n", out);
     }
     let mut room = [PATTERN; 4096];
     let n = lent(clock.room);
@@ -233,23 +297,40 @@ fn start(ranges: List, pairs: List) -> Started
     control::start(&first[0..r], &second[0..p])
 }
 
-// A start: a refused one leaves no table.
+// What a start answers: a refused one leaves no table.
+fn open(desk: Desk, started: Started, out: &mut [u8]) -> Desk
+    requires { ⌜ (length (now out) ≡ 65536) × Tidy desk ⌝ }
+    ensures { λ r. ⌜ Tidy r ⌝ }
+{
+    let table = started.table;
+    if started.refusal == 0 {
+        return say(
+            desk.started(table, true),
+            b"0 - 0 - 0\n",
+            b"# start accepted: every slot is empty\n",
+            out,
+        );
+    }
+    say(
+        desk.started(table, false),
+        b"9 - 0 - 0\n",
+        b"# start refused: the lists break a rule\n",
+        out,
+    )
+}
+
+// A line that begins with `start`.
 fn begin(desk: Desk, line: &[u8], out: &mut [u8]) -> Desk
     requires { ⌜ (length (now out) ≡ 65536) × Tidy desk ⌝ }
     ensures { λ r. ⌜ Tidy r ⌝ }
 {
     let lists = script::read_lists(line);
     if !lists.good {
-        return say(desk, b"bad line\n", out);
+        return say_bad_line(desk, out);
     }
     let ranges = lists.ranges;
     let pairs = lists.pairs;
-    let started = start(ranges, pairs);
-    let table = started.table;
-    if started.refusal == 0 {
-        return say(desk.started(table, true), b"0 - 0 - 0\n", out);
-    }
-    say(desk.started(table, false), b"9 - 0 - 0\n", out)
+    open(desk, start(ranges, pairs), out)
 }
 
 // If a line gets no answer: it is empty or a comment.
@@ -269,25 +350,10 @@ fn take(desk: Desk, line: &[u8], octets: &mut [u8], out: &mut [u8]) -> Desk
         return desk;
     }
     match script::read(line, octets) {
-        Line::Bad => say(desk, b"bad line\n", out),
+        Line::Bad => say_bad_line(desk, out),
         Line::Start => begin(desk, line, out),
         Line::Event(clock, request) => handle(desk, clock, request, octets, out),
     }
-}
-
-// The place of the first line end from place `at` on, or the end.
-fn line_end(chunk: &[u8], at: usize) -> usize
-    requires { ⌜ at ≤ length (now chunk) ⌝ }
-    ensures { λ r. ⌜ (at ≤ r) × (r ≤ length (now (chunk .entry))) ⌝ }
-{
-    let mut i = at;
-    while i < chunk.len() {
-        if chunk[i] == b'\n' {
-            return i;
-        }
-        i += 1;
-    }
-    i
 }
 
 // Puts a piece of a line behind what is held of it, as much as the buffer takes; 65,537 are held of a line that is too long.
@@ -319,7 +385,7 @@ fn take_held(desk: Desk, line: &[u8], octets: &mut [u8], out: &mut [u8]) -> Desk
     if is_skipped(line) {
         return next;
     }
-    say(next, b"bad line\n", out)
+    say_bad_line(next, out)
 }
 
 // A piece of the input up to a line end or the chunk's end.
@@ -354,7 +420,7 @@ fn lines(desk: Desk, chunk: &[u8], line: &mut [u8], octets: &mut [u8], out: &mut
     let mut d = desk;
     let mut at: usize = 0;
     while at < chunk.len() {
-        let end = line_end(chunk, at);
+        let end = script::place_of(b'\n', chunk, at);
         d = cut(d, &chunk[at..end], end < chunk.len(), line, octets, out);
         at = end + 1;
     }
@@ -417,11 +483,18 @@ fn finish(desk: Desk, line: &[u8], octets: &mut [u8], out: &mut [u8])
 }
 
 // All of the script.
-fn run(input: &mut [u8], line: &mut [u8], octets: &mut [u8], out: &mut [u8])
+fn run(explains: bool, input: &mut [u8], line: &mut [u8], octets: &mut [u8], out: &mut [u8])
     requires { ⌜ (length (now out) ≡ 65536) × (length (now line) ≡ 65536) ⌝ }
 {
-    let desk = turns(Desk::new(), input, line, octets, out);
+    let desk = turns(Desk::new(explains), input, line, octets, out);
     finish(desk, line, octets, out);
+}
+
+// If the first argument is `explain`.
+fn asks_to_explain() -> bool {
+    let mut word = io::buffer();
+    let n = os::arg(1, &mut word);
+    script::same(&word[..n], b"explain")
 }
 
 fn main() {
@@ -429,5 +502,11 @@ fn main() {
     let mut line = io::large_buffer();
     let mut octets = io::buffer();
     let mut out = io::large_buffer();
-    run(&mut input, &mut line, &mut octets, &mut out);
+    run(
+        asks_to_explain(),
+        &mut input,
+        &mut line,
+        &mut octets,
+        &mut out,
+    );
 }

@@ -1,5 +1,5 @@
 -- Laws of the words of a line.
---   end-here, end-not-here, end-at-last   the walk to the next blank
+--   place-here, place-not-here, place-at-end   the walk to an octet
 --   equal-here, equal-not, equal-end      the walk over two words
 -- Assumes nothing.
 use Prim.Native.Nat.{ℕ, suc, _+_, _≤_, _<_}
@@ -12,17 +12,17 @@ use mathlib.Core.List.{List, [], _∷_}
 use lib.ListN.{length, drop, getD, drop-of-length-le}
 use lib.Seq.{drop-cons}
 use borrow.Author.Tests.{eq-eqb, ne-eqb}
-use Rattle.script.specs.Words.{wordLength, equal}
+use Rattle.script.specs.Words.{placeOf, equal}
 
-module _ (line : List ℕ) (i : ℕ) where
-  pub end-here : i < length line → getD line i 0 ≡ 32 → i + wordLength (drop i line) ≡ i
-  end-here h e = rw (drop-cons line i 0 h, eq-eqb (getD line i 0) 32 e) (omega arith)
+module _ (octet : ℕ) (line : List ℕ) (i : ℕ) where
+  pub place-here : i < length line → getD line i 0 ≡ octet → placeOf octet line i ≡ i
+  place-here h e = rw (drop-cons line i 0 h, eq-eqb (getD line i 0) octet e) (omega arith)
 
-  pub end-not-here : i < length line → (getD line i 0 ≡ 32 → ⊥) → i + wordLength (drop i line) ≡ (i + 1) + wordLength (drop (i + 1) line)
-  end-not-here h e = rw (drop-cons line i 0 h, ne-eqb (getD line i 0) 32 e, add-one) (omega arith)
+  pub place-not-here : i < length line → (getD line i 0 ≡ octet → ⊥) → placeOf octet line i ≡ placeOf octet line (i + 1)
+  place-not-here h e = rw (drop-cons line i 0 h, ne-eqb (getD line i 0) octet e, add-one) (omega arith)
 
-  pub end-at-last : length line ≤ i → i + wordLength (drop i line) ≡ i
-  end-at-last h = rw (drop-of-length-le line {i = i} h) (omega arith)
+  pub place-at-end : length line ≤ i → placeOf octet line i ≡ i
+  place-at-end h = rw (drop-of-length-le line {i = i} h) (omega arith)
 
 module _ (a b : List ℕ) (i : ℕ) (same : length a ≡ length b) where
   pub equal-not : i < length a → (getD a i 0 ≡ getD b i 0 → ⊥) → equal (drop i a) (drop i b) ≡ false

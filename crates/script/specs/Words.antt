@@ -1,5 +1,6 @@
 -- The words of a line, separated by one blank.
---   wordLength, endAt, wordAt   the word from a place up to the next blank or the line's end
+--   countTo, placeOf            the first place of an octet from a place on
+--   endAt, wordAt               the word from a place up to the next blank or the line's end
 --   equal, wordOf               the word that a line begins with
 --   fieldAt                     the number behind a blank
 -- Assumes nothing.
@@ -18,14 +19,18 @@ use Rattle.script.specs.declared.words.Word.the-variants.{Unknown, Start
 use Rattle.script.specs.declared.words.Kind.the-variants.{Message, Tick, Connect, Clear, Offer}
 use Rattle.script.specs.Decimal.{numberOf}
 
--- how many octets stand before the first blank
-abbrev pub wordLength : List ℕ → ℕ
-wordLength [] = 0
-wordLength (o ∷ os) = cond (eqb o 32) 0 (suc (wordLength os))
+-- how many octets stand before the first such octet
+abbrev pub countTo : ℕ → List ℕ → ℕ
+countTo octet [] = 0
+countTo octet (o ∷ s) = cond (eqb o octet) 0 (suc (countTo octet s))
 
--- the place of the first blank from a place on, or the line's end
+-- the place of the first such octet from a place on, or the line's end
+abbrev pub placeOf : ℕ → List ℕ → ℕ → ℕ
+placeOf octet line at = at + countTo octet (drop at line)
+
+-- the end of the word from a place on: the next blank, or the line's end
 abbrev pub endAt : List ℕ → ℕ → ℕ
-endAt line at = at + wordLength (drop at line)
+endAt line at = placeOf 32 line at
 
 abbrev pub wordAt : List ℕ → ℕ → List ℕ
 wordAt line at = part line at (endAt line at)

@@ -1,10 +1,11 @@
 // The event script: one line read into one event.
-//   number                 a decimal number below 2^64
-//   octets                 octets in hex, or `-` for none
+//   read_number            a decimal number below 2^64
+//   read_octets            octets in hex, or `-` for none
 //   Clock, Request, Line   what a line says
 //   read                   a line; octets go to the front of a lent room
 //   List, Lists            the two lists of a start
-//   lists                  a line that begins with `start`
+//   read_lists             a line that begins with `start`
+//   place_of, same         the first place of an octet from a place on; if two words are the same
 // Assumes nothing.
 mod decimal;
 mod hex;
@@ -21,6 +22,8 @@ pub use start::read_lists;
 use words::Field;
 use words::Kind;
 use words::Word;
+pub use words::place_of;
+pub use words::same;
 ghost use mathlib.Core.Path.{_≡_};
 ghost use Prim.Native.Nat.{ℕ};
 ghost use lib.ListN.{length};
@@ -187,7 +190,7 @@ pub fn read(line: &[u8], room: &mut [u8]) -> Line
         × (now (room .exit) ≡ front (lineStored (length (now (room .entry))) (now (line .entry))) (now (room .entry))) ⌝ }
     ensures within { λ r. ⌜ Within r (length (now (room .entry))) ⌝ }
 {
-    let end = words::word_end(line, 0);
+    let end = words::place_of(b' ', line, 0);
     match words::read_word(&line[0..end]) {
         Word::Unknown => Line::Bad,
         Word::Start => Line::Start,

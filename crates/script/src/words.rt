@@ -2,7 +2,7 @@
 ghost use mathlib.Core.Path.{_≡_};
 ghost use Prim.Native.Nat.{_≤_};
 ghost use lib.ListN.{length};
-ghost use Rattle.script.specs.Words.{endAt, equal, wordOf, fieldAt};
+ghost use Rattle.script.specs.Words.{placeOf, equal, wordOf, fieldAt};
 use crate::decimal;
 use crate::decimal::Number;
 
@@ -28,14 +28,14 @@ pub enum Field {
     Is(u64, usize),
 }
 
-// The place of the first blank from place `at` on, or the line's end.
-pub fn word_end(line: &[u8], at: usize) -> usize
-    ensures { λ r. ⌜ r ≡ endAt (now (line .entry)) at ⌝ }
+// The place of the first such octet from place `at` on, or the line's end.
+pub fn place_of(octet: u8, line: &[u8], at: usize) -> usize
+    ensures { λ r. ⌜ r ≡ placeOf octet (now (line .entry)) at ⌝ }
     ensures within { λ r. ⌜ (at ≤ r) × (at ≤ length (now (line .entry)) → r ≤ length (now (line .entry))) ⌝ }
 {
     let mut i = at;
     while i < line.len() {
-        if line[i] == b' ' {
+        if line[i] == octet {
             return i;
         }
         i += 1;
@@ -51,15 +51,15 @@ pub fn read_field(line: &[u8], at: usize) -> Field
         return Field::Bad;
     }
     let from = at + 1;
-    let to = word_end(line, from);
+    let to = place_of(b' ', line, from);
     match decimal::read_number(&line[from..to]) {
         Number::Bad => Field::Bad,
         Number::Is(value) => Field::Is(value, to),
     }
 }
 
-// Whether two words have the same octets.
-fn same(a: &[u8], b: &[u8]) -> bool
+// If two words have the same octets.
+pub fn same(a: &[u8], b: &[u8]) -> bool
     ensures { λ r. ⌜ r ≡ equal (now (a .entry)) (now (b .entry)) ⌝ }
 {
     if a.len() != b.len() {

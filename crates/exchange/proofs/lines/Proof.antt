@@ -2,11 +2,10 @@
 -- Assumes nothing.
 use borrow.Author.Needs.{needs}
 use native.Mathlib.Omega.{arith}
-use Prim.Native.Nat.{_+_, _-_, _≤_}
+use Prim.Native.Nat.{_+_, _-_, _≤_, _<_}
 use mathlib.Core.Path.{_≡_}
 use lib.ListN.{length}
 use Rattle.exchange.specs.Desk.{Tidy}
-use Prim.Native.Nat.{_<_}
 use Rattle.exchange.proofs.lines.Statement.{statement}
 use Rattle.exchange.proofs.lines.Tie as tie
 
@@ -19,8 +18,8 @@ abbrev μ-loop : tie.MeasureT-loop
 loop-holds : tie.Need-loop-holds Inv-loop μ-loop
 loop-holds c = search needs
 
-line-end-requires : tie.Need-line-end-requires Inv-loop μ-loop
-line-end-requires c κs = search needs
+place-of-requires : tie.Need-place-of-requires Inv-loop μ-loop
+place-of-requires c κs = search needs
 
 sub-cut : tie.Need-sub-cut Inv-loop μ-loop
 sub-cut c = search needs
@@ -29,19 +28,21 @@ part-cut-start : tie.Need-part-cut-start Inv-loop μ-loop
 part-cut-start c = search needs
 
 part-cut-end : tie.Need-part-cut-end Inv-loop μ-loop
-part-cut-end c = search needs
+part-cut-end c = c .place-of .ensures .1 .1 (omega arith)
 
 cut-requires : tie.Need-cut-requires Inv-loop μ-loop
 cut-requires c κs = search needs
 
 add-at : tie.Need-add-at Inv-loop μ-loop
-add-at c = search needs
+add-at c = record { fits = omega (arith, c .before .before .before .before .before .before .before .before .before .before .before .place-of .ensures .1 .1 (omega arith)) }
 
 loop-less : tie.Need-loop-less Inv-loop μ-loop
 loop-less c = search needs
 
 loop-again : tie.Need-loop-again Inv-loop μ-loop
-loop-again c = search needs
+loop-again c =
+    let e = c .before .before .before .before .before .before .before .before .before .before .before .place-of .ensures .1 .1 (omega arith) in
+    (omega arith, search needs, search needs, search needs, search needs, search needs, search needs, (search needs, search needs))
 
 same-length : tie.Need-same-length Inv-loop μ-loop
 same-length c = search needs
@@ -62,7 +63,7 @@ lines-spec =
     Inv-loop
     μ-loop
     loop-holds
-    line-end-requires
+    place-of-requires
     sub-cut
     part-cut-start
     part-cut-end

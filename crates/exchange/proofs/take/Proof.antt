@@ -17,11 +17,8 @@ read-requires c κs = search needs
 enum-told : tie.Need-enum-told
 enum-told c = search needs
 
-slice-aggregate-say : tie.Need-slice-aggregate-say
-slice-aggregate-say c = search needs
-
-say-requires : tie.Need-say-requires
-say-requires c κs = search needs
+say-bad-line-requires : tie.Need-say-bad-line-requires
+say-bad-line-requires c κs = search needs
 
 enum-told-2 : tie.Need-enum-told-2
 enum-told-2 c = search needs
@@ -72,8 +69,7 @@ take-spec =
     returns
     read-requires
     enum-told
-    slice-aggregate-say
-    say-requires
+    say-bad-line-requires
     enum-told-2
     begin-requires
     enum-known-clock

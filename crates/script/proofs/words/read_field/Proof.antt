@@ -12,8 +12,8 @@ returns c = rw (le-ltb _ _ (c .if1 .taken))
 add-from : tie.Need-add-from
 add-from c = search needs
 
-word-end-requires : tie.Need-word-end-requires
-word-end-requires c κs = search needs
+place-of-requires : tie.Need-place-of-requires
+place-of-requires c κs = search needs
 
 sub-read-number : tie.Need-sub-read-number
 sub-read-number c = search needs
@@ -22,7 +22,7 @@ part-read-number-start : tie.Need-part-read-number-start
 part-read-number-start c = search needs
 
 part-read-number-end : tie.Need-part-read-number-end
-part-read-number-end c = c .word-end .ensures .1 .1 (omega arith)
+part-read-number-end c = c .place-of .ensures .1 .1 (omega arith)
 
 read-number-requires : tie.Need-read-number-requires
 read-number-requires c κs = search needs
@@ -34,10 +34,10 @@ enum-known-value : tie.Need-enum-known-value
 enum-known-value c = search needs
 
 returns-2 : tie.Need-returns-2
-returns-2 c = rw (lt-ltb _ _ (c .before .before .before .before .before .if1 .left), ← c .before .before .before .before .word-end .ensures .0, sym (c .before .before .read-number .ensures) ∙ c .enum-told .given .1)
+returns-2 c = rw (lt-ltb _ _ (c .before .before .before .before .before .if1 .left), ← c .before .before .before .before .place-of .ensures .0, sym (c .before .before .read-number .ensures) ∙ c .enum-told .given .1)
 
 returns-3 : tie.Need-returns-3
-returns-3 c = rw (lt-ltb _ _ (c .before .before .before .before .before .before .if1 .left), ← c .before .before .before .before .before .word-end .ensures .0, sym (c .before .before .before .read-number .ensures) ∙ c .before .value .given .1)
+returns-3 c = rw (lt-ltb _ _ (c .before .before .before .before .before .before .if1 .left), ← c .before .before .before .before .before .place-of .ensures .0, sym (c .before .before .before .read-number .ensures) ∙ c .before .value .given .1)
 
 pub read-field-spec : {M : Type 1} → statement M
 read-field-spec =
@@ -45,7 +45,7 @@ read-field-spec =
     (tie.spec
     returns
     add-from
-    word-end-requires
+    place-of-requires
     sub-read-number
     part-read-number-start
     part-read-number-end

@@ -1,0 +1,63 @@
+-- `explain::put_slots` meets its contract. The loop's invariant: at most 370 octets were written for each slot passed.
+-- Assumes nothing.
+use borrow.Author.Needs.{needs}
+use native.Mathlib.Omega.{arith}
+use mathlib.Core.Path.{_≡_}
+use Prim.Native.Nat.{_+_, _*_, _-_, _≤_}
+use lib.ListN.{length}
+use Rattle.script.specs.Lines.{Asks}
+use Rattle.explain.proofs.put_slots.Statement.{statement}
+use Rattle.explain.proofs.put_slots.Tie as tie
+
+abbrev Inv-loop : tie.InvT-loop
+Inv-loop out₀ at request came before after next₀ i₀ out next i = (i ≤ 32) × (at ≤ next) × (next ≤ at + 370 * i) × (length out ≡ length out₀) × (at + 11840 ≤ length out₀) × Asks request (length came)
+
+abbrev μ-loop : tie.MeasureT-loop
+μ-loop out₀ at request came before after next₀ i₀ out next i = 32 - i
+
+loop-holds : tie.Need-loop-holds Inv-loop μ-loop
+loop-holds c = (search needs, search needs, search needs, search needs, search needs, c .before .before .pre .1)
+
+slot-at-requires : tie.Need-slot-at-requires Inv-loop μ-loop
+slot-at-requires c κs = search needs
+
+slot-at-requires-2 : tie.Need-slot-at-requires-2 Inv-loop μ-loop
+slot-at-requires-2 c κs = search needs
+
+is-about-requires : tie.Need-is-about-requires Inv-loop μ-loop
+is-about-requires c κs = c .before .before .before .loop .inv .5
+
+put-if-requires : tie.Need-put-if-requires Inv-loop μ-loop
+put-if-requires c κs = search needs
+
+add-i : tie.Need-add-i Inv-loop μ-loop
+add-i c = search needs
+
+loop-less : tie.Need-loop-less Inv-loop μ-loop
+loop-less c = search needs
+
+loop-again : tie.Need-loop-again Inv-loop μ-loop
+loop-again c = (search needs, search needs, search needs, search needs, search needs, c .before .before .before .before .before .before .before .before .loop .inv .5)
+
+same-length : tie.Need-same-length Inv-loop μ-loop
+same-length c = search needs
+
+returns : tie.Need-returns Inv-loop μ-loop
+returns c = search needs
+
+pub put-slots-spec : {M : Type 1} → statement M
+put-slots-spec =
+    tie.close
+    (tie.spec
+    Inv-loop
+    μ-loop
+    loop-holds
+    slot-at-requires
+    slot-at-requires-2
+    is-about-requires
+    put-if-requires
+    add-i
+    loop-less
+    loop-again
+    same-length
+    returns)
