@@ -187,7 +187,7 @@ module _ (t : Table) (whole : HasSlots t) where
     only-here j same = by-test (eqb j i) (λ y. eqb-true j i y) (λ n. absurd (same (eqb-false j i n)))
 
     one-flag : (Meant : ℕ → Type 0) → Meant i → ((j : ℕ) → Meant j → ¬ (j ≢ i)) → OneFlag (flagsAt i) Meant
-    one-flag Meant meant only = record { slot = i; meant = meant; no-other = λ j m. only-here j (only j m); set = set-at; none-else = unset-at }
+    one-flag Meant meant only = record { slot = i; meant = meant; no-other = λ j m. only-here j (only j m); raised = set-at; none-else = unset-at }
 
     asked-exact : (c : Call) → slotAt t i ≡ noSlot → s .hold ≡ Live c → NamesExactly t u 1 (flagsAt i)
     asked-exact c empty live = record {

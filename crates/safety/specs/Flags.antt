@@ -47,7 +47,7 @@ pub record OneFlag (f : Flags) (Meant : ℕ → Type 0) : Type 0 where
   pub slot : ℕ
   pub meant : Meant slot
   pub no-other : (j : ℕ) → Meant j → j ≡ slot
-  pub set : flagOf f slot ≡ true
+  pub raised : flagOf f slot ≡ true
   pub none-else : (j : ℕ) → j ≢ slot → flagOf f j ≡ false
 
 pub record NamesExactly (t u : Table) (notice : ℕ) (f : Flags) : Type 0 where
