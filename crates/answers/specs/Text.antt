@@ -1,5 +1,4 @@
 -- An answer line as text, in ASCII.
---   decimalText                 a number below 256
 --   hexGlyph, hexText           octets in lower-case hex
 --   replyText                   a reply, or `-`
 --   slotText, slotsText         the numbers of flagged slots, joined by commas
@@ -12,12 +11,7 @@ use mathlib.Core.Bool.{Bool, true, false, cond}
 use mathlib.Core.List.{List, [], _∷_, _++_}
 use lib.Dec.{eqb, ltb}
 use lib.ListN.{length}
-
-abbrev pub decimalText : ℕ → List ℕ
-decimalText n =
-    cond (ltb n 10) ((48 + n) ∷ [])
-    (cond (ltb n 100) ((48 + n / 10) ∷ (48 + n % 10) ∷ [])
-    ((48 + n / 100) ∷ (48 + n / 10 % 10) ∷ (48 + n % 10) ∷ []))
+use Rattle.ascii.specs.Ascii.{decimalText}
 
 -- a digit below 16: 0 to 9, then a to f
 abbrev pub hexGlyph : ℕ → ℕ

@@ -1,5 +1,4 @@
 // Answer lines, written at a place of a lent buffer.
-//   put_decimal     a number below 256
 //   put_hex         octets in lower-case hex, or `-` for none
 //   put_flags       slot numbers in ascending order, joined by commas, or `-` for none
 //   put_answer      a whole answer line
@@ -11,7 +10,7 @@ ghost use mathlib.Core.List.{[]};
 ghost use Prim.Native.Nat.{_+_, _*_, _≤_, _<_};
 ghost use lib.ListN.{length};
 ghost use Rattle.octets.specs.Octets.{Wrote};
-ghost use Rattle.answers.specs.Text.{decimalText, hexGlyph, hexText, replyText, slotText, slotsText, flagsText, moreText, firstText, lastText, answerText};
+ghost use Rattle.answers.specs.Text.{hexGlyph, hexText, replyText, slotText, slotsText, flagsText, moreText, firstText, lastText, answerText};
 
 // The hex digit of a number below 16.
 fn glyph(n: u8) -> u8
@@ -22,20 +21,6 @@ fn glyph(n: u8) -> u8
         return 48 + n;
     }
     87 + n
-}
-
-pub fn put_decimal(out: &mut [u8], at: usize, n: u8) -> usize
-    requires { ⌜ at + 3 ≤ length (now out) ⌝ }
-    ensures { λ r. ⌜ Wrote (now (out .entry)) at (decimalText n) (now (out .exit)) r ⌝ }
-    ensures short { λ r. ⌜ (r ≡ at + length (decimalText n)) × (at < r) × (r ≤ at + 3) ⌝ }
-{
-    if n < 10 {
-        return octets::put(out, at, &[48 + n]);
-    }
-    if n < 100 {
-        return octets::put(out, at, &[48 + n / 10, 48 + n % 10]);
-    }
-    octets::put(out, at, &[48 + n / 100, 48 + n / 10 % 10, 48 + n % 10])
 }
 
 // Octets in hex.
@@ -69,20 +54,20 @@ pub fn put_hex(out: &mut [u8], at: usize, reply: &[u8]) -> usize
 
 // One slot number, behind a comma if it is not the first.
 fn put_slot(out: &mut [u8], at: usize, i: u8, first: bool) -> usize
-    requires { ⌜ at + 4 ≤ length (now out) ⌝ }
+    requires { ⌜ at + 21 ≤ length (now out) ⌝ }
     ensures { λ r. ⌜ Wrote (now (out .entry)) at (slotText i first) (now (out .exit)) r ⌝ }
     ensures short { λ r. ⌜ (at < r) × (r ≤ at + 4) ⌝ }
 {
     if first {
-        return put_decimal(out, at, i);
+        return ascii::put_octet(out, at, i);
     }
     let next = octets::put(out, at, b",");
-    put_decimal(out, next, i)
+    ascii::put_octet(out, next, i)
 }
 
 // One slot number, if the slot is flagged.
 fn put_flag(out: &mut [u8], at: usize, i: u8, first: bool, on: bool) -> usize
-    requires { ⌜ at + 4 ≤ length (now out) ⌝ }
+    requires { ⌜ at + 21 ≤ length (now out) ⌝ }
     ensures { λ r. ⌜ Wrote (now (out .entry)) at (cond on (slotText i first) []) (now (out .exit)) r ⌝ }
     ensures short { λ r. ⌜ (at ≤ r) × (r ≤ at + 4) × (on ≡ true → at < r) ⌝ }
 {
@@ -94,7 +79,7 @@ fn put_flag(out: &mut [u8], at: usize, i: u8, first: bool, on: bool) -> usize
 
 // The numbers of all flagged slots.
 fn put_slots(out: &mut [u8], at: usize, flags: Flags) -> usize
-    requires { ⌜ at + 128 ≤ length (now out) ⌝ }
+    requires { ⌜ at + 145 ≤ length (now out) ⌝ }
     ensures { λ r. ⌜ Wrote (now (out .entry)) at (slotsText 0 true (flags .on)) (now (out .exit)) r ⌝ }
     ensures short { λ r. ⌜ (at ≤ r) × (r ≤ at + 128) ⌝ }
 {
@@ -109,7 +94,7 @@ fn put_slots(out: &mut [u8], at: usize, flags: Flags) -> usize
 }
 
 pub fn put_flags(out: &mut [u8], at: usize, flags: Flags) -> usize
-    requires { ⌜ at + 128 ≤ length (now out) ⌝ }
+    requires { ⌜ at + 145 ≤ length (now out) ⌝ }
     ensures { λ r. ⌜ Wrote (now (out .entry)) at (flagsText (flags .on)) (now (out .exit)) r ⌝ }
     ensures short { λ r. ⌜ (r ≡ at + length (flagsText (flags .on))) × (at ≤ r) × (r ≤ at + 128) ⌝ }
 {
@@ -133,11 +118,11 @@ fn put_more(out: &mut [u8], at: usize, more: bool) -> usize
 
 // The refusal number and the reply, each with a blank behind it.
 fn put_reply(out: &mut [u8], at: usize, refusal: u8, reply: &[u8]) -> usize
-    requires { ⌜ at + 6 + 2 * length (now reply) ≤ length (now out) ⌝ }
+    requires { ⌜ at + 20 + 2 * length (now reply) ≤ length (now out) ⌝ }
     ensures { λ r. ⌜ Wrote (now (out .entry)) at (firstText refusal (now (reply .entry))) (now (out .exit)) r ⌝ }
     ensures short { λ r. ⌜ (at ≤ r) × (r ≤ at + 6 + 2 * length (now (reply .entry))) ⌝ }
 {
-    let refused = put_decimal(out, at, refusal);
+    let refused = ascii::put_octet(out, at, refusal);
     let second = octets::put(out, refused, b" ");
     let replied = put_hex(out, second, reply);
     octets::put(out, replied, b" ")
@@ -145,11 +130,11 @@ fn put_reply(out: &mut [u8], at: usize, refusal: u8, reply: &[u8]) -> usize
 
 // The notice, the flags and whether more is due.
 fn put_notice(out: &mut [u8], at: usize, notice: u8, flags: Flags, more: bool) -> usize
-    requires { ⌜ at + 135 ≤ length (now out) ⌝ }
+    requires { ⌜ at + 149 ≤ length (now out) ⌝ }
     ensures { λ r. ⌜ Wrote (now (out .entry)) at (lastText notice (flags .on) more) (now (out .exit)) r ⌝ }
     ensures short { λ r. ⌜ (at ≤ r) × (r ≤ at + 135) ⌝ }
 {
-    let noticed = put_decimal(out, at, notice);
+    let noticed = ascii::put_octet(out, at, notice);
     let second = octets::put(out, noticed, b" ");
     let flagged = put_flags(out, second, flags);
     put_more(out, flagged, more)

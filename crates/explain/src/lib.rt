@@ -11,24 +11,75 @@ use elements::CauseRead;
 use header::Head;
 use header::Header;
 use script::Request;
+ghost use mathlib.Core.Path.{_≡_};
+ghost use mathlib.Core.List.{_++_};
 ghost use Prim.Native.Nat.{_+_, _≤_, _<_};
 ghost use lib.ListN.{length};
+ghost use Rattle.octets.specs.Octets.{Wrote};
+ghost use Rattle.ascii.specs.Ascii.{decimalText};
+ghost use Rattle.elements.specs.Values.{causeIn};
 ghost use Rattle.script.specs.Lines.{Asks};
+ghost use Rattle.explain.specs.Names.{nameIn, causeNames, refusalNames};
+ghost use Rattle.explain.specs.Line.{kindText, causeText, flagText, headerText, foundText, messageText, clearText, requestText, replyText, timerText, callText, slotText, sameDue, samePhase, isSame, isAbout, changeText, noteText, slotsText, lineText};
 
-fn put_number(out: &mut [u8], at: usize, n: u64) -> usize
-    requires { ⌜ at + 20 ≤ length (now out) ⌝ }
-    ensures { λ r. ⌜ (at ≤ r) × (r ≤ at + 20) ⌝ }
-{
-    let mut text = [0u8; 20];
-    let k = io::decimal(n, &mut text);
-    octets::put(out, at, &text[0..k])
-}
+// Tables of names: in each line the number is the first octet, and the name follows.
+const KIND_NAMES: [u8; 135] = *b"\x02CALL PROCEEDING\n\
+    \x05SETUP\n\
+    \x07CONNECT\n\
+    \x0FCONNECT ACKNOWLEDGE\n\
+    \x46RESTART\n\
+    \x4DRELEASE\n\
+    \x4ERESTART ACKNOWLEDGE\n\
+    \x5ARELEASE COMPLETE\n\
+    \x75STATUS ENQUIRY\n\
+    \x7DSTATUS\n";
 
-// The name that a number has in a table. In each of its lines the number is the first octet, and the name follows.
-// Nothing is written for a number that is not there.
+const CAUSE_NAMES: [u8; 865] = *b"\x01 unallocated (unassigned) number\n\
+    \x03 no route to destination\n\
+    \x10 normal call clearing\n\
+    \x11 user busy\n\
+    \x12 no user responding\n\
+    \x15 call rejected\n\
+    \x16 number changed\n\
+    \x1B destination out of order\n\
+    \x1C invalid number format\n\
+    \x1E response to STATUS ENQUIRY\n\
+    \x1F normal, unspecified\n\
+    \x29 temporary failure\n\
+    \x2D no VPCI/VCI available\n\
+    \x2F resource unavailable, unspecified\n\
+    \x31 Quality of Service unavailable\n\
+    \x39 bearer capability not authorized\n\
+    \x3A bearer capability not presently available\n\
+    \x3F service or option not available, unspecified\n\
+    \x41 bearer capability not implemented\n\
+    \x49 unsupported combination of traffic parameters\n\
+    \x51 invalid call reference value\n\
+    \x52 identified channel does not exist\n\
+    \x58 incompatible destination\n\
+    \x60 mandatory information element is missing\n\
+    \x61 message type non-existent or not implemented\n\
+    \x64 invalid information element contents\n\
+    \x65 message not compatible with call state\n\
+    \x66 recovery on timer expiry\n";
+
+const REFUSAL_NAMES: [u8; 386] = *b"\x01; refused: reply room under 1,024 octets\n\
+    \x02; refused: clock label not 1\n\
+    \x03; refused: reading too large\n\
+    \x04; refused: reading below the last accepted\n\
+    \x05; refused: message empty or over 1,024 octets\n\
+    \x06; refused: no call in this slot\n\
+    \x07; refused: wrong state\n\
+    \x08; refused: cause not in the host's list\n\
+    \x0A; refused: the body of the offer\n\
+    \x0B; refused: no empty slot\n\
+    \x0C; refused: no permitted pair free\n";
+
+// The name that a number has in a table; nothing if it has none.
 fn put_name(out: &mut [u8], at: usize, table: &[u8], number: u8) -> usize
     requires { ⌜ at + length (now table) ≤ length (now out) ⌝ }
-    ensures { λ r. ⌜ (at ≤ r) × (r ≤ at + length (now (table .entry))) ⌝ }
+    ensures { λ r. ⌜ Wrote (now (out .entry)) at (nameIn (now (table .entry)) number) (now (out .exit)) r ⌝ }
+    ensures short { λ r. ⌜ (at ≤ r) × (r ≤ at + length (now (table .entry))) ⌝ }
 {
     let mut from: usize = 0;
     while from < table.len() {
@@ -45,49 +96,43 @@ fn put_name(out: &mut [u8], at: usize, table: &[u8], number: u8) -> usize
 // A message type.
 fn put_kind(out: &mut [u8], at: usize, kind: u8) -> usize
     requires { ⌜ at + 200 ≤ length (now out) ⌝ }
-    ensures { λ r. ⌜ (at ≤ r) × (r ≤ at + 200) ⌝ }
+    ensures { λ r. ⌜ Wrote (now (out .entry)) at (kindText kind) (now (out .exit)) r ⌝ }
+    ensures short { λ r. ⌜ (at ≤ r) × (r ≤ at + 200) ⌝ }
 {
-    let end = put_name(
-        out,
-        at,
-        b"\x02CALL PROCEEDING\n\x05SETUP\n\x07CONNECT\n\x0FCONNECT ACKNOWLEDGE\n\x46RESTART\n\x4DRELEASE\n\x4ERESTART ACKNOWLEDGE\n\x5ARELEASE COMPLETE\n\x75STATUS ENQUIRY\n\x7DSTATUS",
-        kind,
-    );
+    let end = put_name(out, at, &KIND_NAMES, kind);
     if at < end {
         return end;
     }
     let next = octets::put(out, at, b"message type ");
-    put_number(out, next, kind as u64)
+    ascii::put_octet(out, next, kind)
 }
 
 // A cause number and its name.
 fn put_cause(out: &mut [u8], at: usize, cause: u8) -> usize
     requires { ⌜ at + 1100 ≤ length (now out) ⌝ }
-    ensures { λ r. ⌜ (at ≤ r) × (r ≤ at + 1100) ⌝ }
+    ensures { λ r. ⌜ Wrote (now (out .entry)) at (causeText cause) (now (out .exit)) r ⌝ }
+    ensures short { λ r. ⌜ (at ≤ r) × (r ≤ at + 1100) ⌝ }
 {
     let next = octets::put(out, at, b" cause ");
-    let end = put_number(out, next, cause as u64);
-    put_name(
-        out,
-        end,
-        b"\x01 unallocated (unassigned) number\n\x03 no route to destination\n\x10 normal call clearing\n\x11 user busy\n\x12 no user responding\n\x15 call rejected\n\x16 number changed\n\x1B destination out of order\n\x1C invalid number format\n\x1E response to STATUS ENQUIRY\n\x1F normal, unspecified\n\x29 temporary failure\n\x2D no VPCI/VCI available\n\x2F resource unavailable, unspecified\n\x31 Quality of Service unavailable\n\x39 bearer capability not authorized\n\x3A bearer capability not presently available\n\x3F service or option not available, unspecified\n\x41 bearer capability not implemented\n\x49 unsupported combination of traffic parameters\n\x51 invalid call reference value\n\x52 identified channel does not exist\n\x58 incompatible destination\n\x60 mandatory information element is missing\n\x61 message type non-existent or not implemented\n\x64 invalid information element contents\n\x65 message not compatible with call state\n\x66 recovery on timer expiry",
-        cause,
-    )
+    let end = ascii::put_octet(out, next, cause);
+    put_name(out, end, &CAUSE_NAMES, cause)
 }
 
 // A message type with its flag and call reference.
 fn put_header(out: &mut [u8], at: usize, head: Header) -> usize
     requires { ⌜ at + 260 ≤ length (now out) ⌝ }
-    ensures { λ r. ⌜ (at ≤ r) × (r ≤ at + 260) ⌝ }
+    ensures { λ r. ⌜ Wrote (now (out .entry)) at (headerText head) (now (out .exit)) r ⌝ }
+    ensures short { λ r. ⌜ (at ≤ r) × (r ≤ at + 260) ⌝ }
 {
     let named = put_kind(out, at, head.kind);
     let flagged = put_flag(out, named, head.flag);
-    put_number(out, flagged, head.reference as u64)
+    ascii::put_decimal(out, flagged, head.reference as u64)
 }
 
 fn put_flag(out: &mut [u8], at: usize, flag: bool) -> usize
     requires { ⌜ at + 20 ≤ length (now out) ⌝ }
-    ensures { λ r. ⌜ (at ≤ r) × (r ≤ at + 20) ⌝ }
+    ensures { λ r. ⌜ Wrote (now (out .entry)) at (flagText flag) (now (out .exit)) r ⌝ }
+    ensures short { λ r. ⌜ (at ≤ r) × (r ≤ at + 20) ⌝ }
 {
     if flag {
         return octets::put(out, at, b" flag 1 reference ");
@@ -98,7 +143,8 @@ fn put_flag(out: &mut [u8], at: usize, flag: bool) -> usize
 // The cause that a message says.
 fn put_cause_of(out: &mut [u8], at: usize, m: &[u8]) -> usize
     requires { ⌜ at + 1100 ≤ length (now out) ⌝ }
-    ensures { λ r. ⌜ (at ≤ r) × (r ≤ at + 1100) ⌝ }
+    ensures { λ r. ⌜ Wrote (now (out .entry)) at (foundText (causeIn (now (m .entry)) 9)) (now (out .exit)) r ⌝ }
+    ensures short { λ r. ⌜ (at ≤ r) × (r ≤ at + 1100) ⌝ }
 {
     match elements::cause(m, 9) {
         CauseRead::Absent => at,
@@ -110,7 +156,8 @@ fn put_cause_of(out: &mut [u8], at: usize, m: &[u8]) -> usize
 // A message: its type, flag, call reference and cause.
 fn put_message(out: &mut [u8], at: usize, m: &[u8]) -> usize
     requires { ⌜ at + 1360 ≤ length (now out) ⌝ }
-    ensures { λ r. ⌜ (at ≤ r) × (r ≤ at + 1360) ⌝ }
+    ensures { λ r. ⌜ Wrote (now (out .entry)) at (messageText (now (m .entry))) (now (out .exit)) r ⌝ }
+    ensures short { λ r. ⌜ (at ≤ r) × (r ≤ at + 1360) ⌝ }
 {
     match header::read(m) {
         Head::Ignored => octets::put(out, at, b"no message of ours"),
@@ -124,16 +171,18 @@ fn put_message(out: &mut [u8], at: usize, m: &[u8]) -> usize
 // A word and a number.
 fn put_labelled(out: &mut [u8], at: usize, word: &[u8], n: u64) -> usize
     requires { ⌜ (at + 40 ≤ length (now out)) × (length (now word) ≤ 20) ⌝ }
-    ensures { λ r. ⌜ (at ≤ r) × (r ≤ at + 40) ⌝ }
+    ensures { λ r. ⌜ Wrote (now (out .entry)) at (now (word .entry) ++ decimalText n) (now (out .exit)) r ⌝ }
+    ensures short { λ r. ⌜ (at ≤ r) × (r ≤ at + 40) ⌝ }
 {
     let next = octets::put(out, at, word);
-    put_number(out, next, n)
+    ascii::put_decimal(out, next, n)
 }
 
 // The cause of a clear, if it is one.
 fn put_wide_cause(out: &mut [u8], at: usize, cause: u64) -> usize
     requires { ⌜ at + 1100 ≤ length (now out) ⌝ }
-    ensures { λ r. ⌜ (at ≤ r) × (r ≤ at + 1100) ⌝ }
+    ensures { λ r. ⌜ Wrote (now (out .entry)) at (clearText cause) (now (out .exit)) r ⌝ }
+    ensures short { λ r. ⌜ (at ≤ r) × (r ≤ at + 1100) ⌝ }
 {
     if cause < 128 {
         return put_cause(out, at, cause as u8);
@@ -144,11 +193,12 @@ fn put_wide_cause(out: &mut [u8], at: usize, cause: u64) -> usize
 // What came in.
 fn put_request(out: &mut [u8], at: usize, request: Request, came: &[u8]) -> usize
     requires { ⌜ (at + 1360 ≤ length (now out)) × Asks request (length (now came)) ⌝ }
-    ensures { λ r. ⌜ (at ≤ r) × (r ≤ at + 1360) ⌝ }
+    ensures { λ r. ⌜ Wrote (now (out .entry)) at (requestText request (now (came .entry))) (now (out .exit)) r ⌝ }
+    ensures short { λ r. ⌜ (at ≤ r) × (r ≤ at + 1360) ⌝ }
 {
     match request {
         Request::Tick => octets::put(out, at, b"tick"),
-        Request::Message(n) => put_message(out, at, &came[0..n]),
+        Request::Message(n) => put_message(out, at, &came[..n]),
         Request::Connect(slot) => put_labelled(out, at, b"connect slot ", slot),
         Request::Clear(slot, cause) => {
             let next = put_labelled(out, at, b"clear slot ", slot);
@@ -161,20 +211,17 @@ fn put_request(out: &mut [u8], at: usize, request: Request, came: &[u8]) -> usiz
 // Why an event was refused.
 fn put_refusal(out: &mut [u8], at: usize, refusal: u8) -> usize
     requires { ⌜ at + 500 ≤ length (now out) ⌝ }
-    ensures { λ r. ⌜ (at ≤ r) × (r ≤ at + 500) ⌝ }
+    ensures { λ r. ⌜ Wrote (now (out .entry)) at (nameIn refusalNames refusal) (now (out .exit)) r ⌝ }
+    ensures short { λ r. ⌜ (at ≤ r) × (r ≤ at + 500) ⌝ }
 {
-    put_name(
-        out,
-        at,
-        b"\x01; refused: reply room under 1,024 octets\n\x02; refused: clock label not 1\n\x03; refused: reading too large\n\x04; refused: reading below the last accepted\n\x05; refused: message empty or over 1,024 octets\n\x06; refused: no call in this slot\n\x07; refused: wrong state\n\x08; refused: cause not in the host's list\n\x0A; refused: the body of the offer\n\x0B; refused: no empty slot\n\x0C; refused: no permitted pair free",
-        refusal,
-    )
+    put_name(out, at, &REFUSAL_NAMES, refusal)
 }
 
 // What went out.
 fn put_reply(out: &mut [u8], at: usize, reply: &[u8]) -> usize
     requires { ⌜ at + 1370 ≤ length (now out) ⌝ }
-    ensures { λ r. ⌜ (at ≤ r) × (r ≤ at + 1370) ⌝ }
+    ensures { λ r. ⌜ Wrote (now (out .entry)) at (replyText (now (reply .entry))) (now (out .exit)) r ⌝ }
+    ensures short { λ r. ⌜ (at ≤ r) × (r ≤ at + 1370) ⌝ }
 {
     if reply.len() == 0 {
         return at;
@@ -186,7 +233,8 @@ fn put_reply(out: &mut [u8], at: usize, reply: &[u8]) -> usize
 // A timer and its deadline.
 fn put_timer(out: &mut [u8], at: usize, phase: Phase) -> usize
     requires { ⌜ at + 40 ≤ length (now out) ⌝ }
-    ensures { λ r. ⌜ (at ≤ r) × (r ≤ at + 40) ⌝ }
+    ensures { λ r. ⌜ Wrote (now (out .entry)) at (timerText phase) (now (out .exit)) r ⌝ }
+    ensures short { λ r. ⌜ (at ≤ r) × (r ≤ at + 40) ⌝ }
 {
     match phase {
         Phase::N3 => at,
@@ -203,7 +251,8 @@ fn put_timer(out: &mut [u8], at: usize, phase: Phase) -> usize
 // A call's state, pair and timer.
 fn put_call(out: &mut [u8], at: usize, call: Call) -> usize
     requires { ⌜ at + 160 ≤ length (now out) ⌝ }
-    ensures { λ r. ⌜ (at ≤ r) × (r ≤ at + 160) ⌝ }
+    ensures { λ r. ⌜ Wrote (now (out .entry)) at (callText call) (now (out .exit)) r ⌝ }
+    ensures short { λ r. ⌜ (at ≤ r) × (r ≤ at + 160) ⌝ }
 {
     let phase = call.phase;
     let stated = put_labelled(out, at, b" N", phase.state_number() as u64);
@@ -214,7 +263,8 @@ fn put_call(out: &mut [u8], at: usize, call: Call) -> usize
 
 fn put_slot(out: &mut [u8], at: usize, slot: Slot) -> usize
     requires { ⌜ at + 160 ≤ length (now out) ⌝ }
-    ensures { λ r. ⌜ (at ≤ r) × (r ≤ at + 160) ⌝ }
+    ensures { λ r. ⌜ Wrote (now (out .entry)) at (slotText slot) (now (out .exit)) r ⌝ }
+    ensures short { λ r. ⌜ (at ≤ r) × (r ≤ at + 160) ⌝ }
 {
     let hold = slot.hold;
     match hold {
@@ -226,7 +276,8 @@ fn put_slot(out: &mut [u8], at: usize, slot: Slot) -> usize
 // A slot before and after.
 fn put_change(out: &mut [u8], at: usize, i: usize, before: Slot, after: Slot) -> usize
     requires { ⌜ at + 370 ≤ length (now out) ⌝ }
-    ensures { λ r. ⌜ (at ≤ r) × (r ≤ at + 370) ⌝ }
+    ensures { λ r. ⌜ Wrote (now (out .entry)) at (changeText i before after) (now (out .exit)) r ⌝ }
+    ensures short { λ r. ⌜ (at ≤ r) × (r ≤ at + 370) ⌝ }
 {
     let numbered = put_labelled(out, at, b"; slot ", i as u64);
     let first = put_slot(out, numbered, before);
@@ -234,7 +285,9 @@ fn put_change(out: &mut [u8], at: usize, i: usize, before: Slot, after: Slot) ->
     put_slot(out, to, after)
 }
 
-fn same_due(a: Due, b: Due) -> bool {
+fn same_due(a: Due, b: Due) -> bool
+    ensures { λ r. ⌜ r ≡ sameDue a b ⌝ }
+{
     match a {
         Due::Never => match b {
             Due::Never => true,
@@ -247,7 +300,9 @@ fn same_due(a: Due, b: Due) -> bool {
     }
 }
 
-fn same_phase(a: Phase, b: Phase) -> bool {
+fn same_phase(a: Phase, b: Phase) -> bool
+    ensures { λ r. ⌜ r ≡ samePhase a b ⌝ }
+{
     if a.state_number() != b.state_number() {
         return false;
     }
@@ -255,7 +310,9 @@ fn same_phase(a: Phase, b: Phase) -> bool {
 }
 
 // If a slot holds the same call in the same state.
-fn is_same(a: Slot, b: Slot) -> bool {
+fn is_same(a: Slot, b: Slot) -> bool
+    ensures { λ r. ⌜ r ≡ isSame a b ⌝ }
+{
     let first = a.hold;
     let second = b.hold;
     match first {
@@ -277,10 +334,11 @@ fn is_same(a: Slot, b: Slot) -> bool {
 // If an event is about the call of a slot.
 fn is_about(request: Request, came: &[u8], i: usize, slot: Slot) -> bool
     requires { ⌜ Asks request (length (now came)) ⌝ }
+    ensures { λ r. ⌜ r ≡ isAbout request (now (came .entry)) i slot ⌝ }
 {
     match request {
         Request::Tick => false,
-        Request::Message(n) => match header::read(&came[0..n]) {
+        Request::Message(n) => match header::read(&came[..n]) {
             Head::Ignored => false,
             Head::Is(head) => slot.is_call(head.flag, head.reference),
         },
@@ -291,11 +349,12 @@ fn is_about(request: Request, came: &[u8], i: usize, slot: Slot) -> bool
 }
 
 // One slot, if its call changed or the event is about it.
-fn put_if(out: &mut [u8], at: usize, i: usize, before: Slot, after: Slot, is_named: bool) -> usize
+fn put_if(out: &mut [u8], at: usize, i: usize, before: Slot, after: Slot, about: bool) -> usize
     requires { ⌜ at + 370 ≤ length (now out) ⌝ }
-    ensures { λ r. ⌜ (at ≤ r) × (r ≤ at + 370) ⌝ }
+    ensures { λ r. ⌜ Wrote (now (out .entry)) at (noteText i before after about) (now (out .exit)) r ⌝ }
+    ensures short { λ r. ⌜ (at ≤ r) × (r ≤ at + 370) ⌝ }
 {
-    if is_named {
+    if about {
         return put_change(out, at, i, before, after);
     }
     if is_same(before, after) {
@@ -314,15 +373,16 @@ fn put_slots(
     after: Slots,
 ) -> usize
     requires { ⌜ (at + 11840 ≤ length (now out)) × Asks request (length (now came)) ⌝ }
-    ensures { λ r. ⌜ (at ≤ r) × (r ≤ at + 11840) ⌝ }
+    ensures { λ r. ⌜ Wrote (now (out .entry)) at (slotsText request (now (came .entry)) 0 (before .all) (after .all)) (now (out .exit)) r ⌝ }
+    ensures short { λ r. ⌜ (at ≤ r) × (r ≤ at + 11840) ⌝ }
 {
     let mut next = at;
     let mut i: usize = 0;
     while i < 32 {
         let first = before.slot_at(i);
         let second = after.slot_at(i);
-        let is_named = is_about(request, came, i, first);
-        next = put_if(out, next, i, first, second, is_named);
+        let about = is_about(request, came, i, first);
+        next = put_if(out, next, i, first, second, about);
         i += 1;
     }
     next
@@ -340,7 +400,8 @@ pub fn put_line(
     after: Slots,
 ) -> usize
     requires { ⌜ (at + 15100 ≤ length (now out)) × Asks request (length (now came)) ⌝ }
-    ensures { λ r. ⌜ (at ≤ r) × (r ≤ at + 15100) ⌝ }
+    ensures { λ r. ⌜ Wrote (now (out .entry)) at (lineText request (now (came .entry)) refusal (now (reply .entry)) (before .all) (after .all)) (now (out .exit)) r ⌝ }
+    ensures short { λ r. ⌜ (r ≡ at + length (lineText request (now (came .entry)) refusal (now (reply .entry)) (before .all) (after .all))) × (at ≤ r) × (r ≤ at + 15100) ⌝ }
 {
     let first = octets::put(out, at, b"# in ");
     let asked = put_request(out, first, request, came);

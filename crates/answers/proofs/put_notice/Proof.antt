@@ -5,8 +5,8 @@ use Rattle.octets.proofs.Stores.{chain}
 use Rattle.answers.proofs.put_notice.Statement.{statement}
 use Rattle.answers.proofs.put_notice.Tie as tie
 
-put-decimal-requires : tie.Need-put-decimal-requires
-put-decimal-requires c κs = search needs
+put-octet-requires : tie.Need-put-octet-requires
+put-octet-requires c κs = search needs
 
 slice-aggregate-put : tie.Need-slice-aggregate-put
 slice-aggregate-put c = search needs
@@ -25,7 +25,7 @@ same-length c = search needs
 
 returns : tie.Need-returns
 returns c =
-    let d = c .before .before .before .before .before .before .before .before .before .before .before .before .before .before .before .put-decimal .ensures in
+    let d = c .before .before .before .before .before .before .before .before .before .before .before .before .before .before .before .put-octet .ensures in
     let f = c .before .before .before .before .before .before .put-flags .ensures in
     (chain (chain (chain (d .0) (c .before .before .before .before .before .before .before .before .before .before .put .ensures .1)) (f .0)) (c .before .before .put-more .ensures .0), (omega arith, omega arith))
 
@@ -33,7 +33,7 @@ pub put-notice-spec : {M : Type 1} → statement M
 put-notice-spec =
     tie.close
     (tie.spec
-    put-decimal-requires
+    put-octet-requires
     slice-aggregate-put
     put-requires
     put-flags-requires

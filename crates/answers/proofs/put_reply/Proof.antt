@@ -5,8 +5,8 @@ use Rattle.octets.proofs.Stores.{chain}
 use Rattle.answers.proofs.put_reply.Statement.{statement}
 use Rattle.answers.proofs.put_reply.Tie as tie
 
-put-decimal-requires : tie.Need-put-decimal-requires
-put-decimal-requires c κs = search needs
+put-octet-requires : tie.Need-put-octet-requires
+put-octet-requires c κs = search needs
 
 slice-aggregate-put : tie.Need-slice-aggregate-put
 slice-aggregate-put c = search needs
@@ -28,7 +28,7 @@ same-length c = search needs
 
 returns : tie.Need-returns
 returns c =
-    let d = c .before .before .before .before .before .before .before .before .before .before .before .before .before .before .before .before .put-decimal .ensures in
+    let d = c .before .before .before .before .before .before .before .before .before .before .before .before .before .before .before .before .put-octet .ensures in
     let h = c .before .before .before .before .before .before .before .put-hex .ensures in
     (chain (chain (chain (d .0) (c .before .before .before .before .before .before .before .before .before .before .before .put .ensures .1)) (h .0)) (c .before .before .put2 .ensures .1), (omega arith, omega arith))
 
@@ -36,7 +36,7 @@ pub put-reply-spec : {M : Type 1} → statement M
 put-reply-spec =
     tie.close
     (tie.spec
-    put-decimal-requires
+    put-octet-requires
     slice-aggregate-put
     put-requires
     put-hex-requires

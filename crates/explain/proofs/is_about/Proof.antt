@@ -1,5 +1,8 @@
--- `explain::is_about` is safe: as many octets came as the request says. Assumes nothing.
+-- `explain::is_about` meets its contract: each answer by the variants that led to it. Assumes nothing.
 use borrow.Author.Needs.{needs}
+use native.Mathlib.Omega.{arith}
+use mathlib.Core.Path.{sym, _∙_}
+use lib.ListN.{length-take}
 use Rattle.explain.proofs.is_about.Statement.{statement}
 use Rattle.explain.proofs.is_about.Tie as tie
 
@@ -9,14 +12,10 @@ enum-told c = search needs
 enum-known-request : tie.Need-enum-known-request
 enum-known-request c = search needs
 
-sub-read : tie.Need-sub-read
-sub-read c = search needs
-
-part-read-start : tie.Need-part-read-start
-part-read-start c = search needs
-
-part-read-end : tie.Need-part-read-end
-part-read-end c = rw (c .before .request .given .1) at (c .before .before .before .before .pre)
+slice-aggregate-read : tie.Need-slice-aggregate-read
+slice-aggregate-read c =
+    let h = rw (c .before .before .request .given .1) at (c .before .before .before .before .before .pre) in
+    simp length-take (omega arith)
 
 read-requires : tie.Need-read-requires
 read-requires c κs = search needs
@@ -43,16 +42,16 @@ returns : tie.Need-returns
 returns c = search needs
 
 returns-2 : tie.Need-returns-2
-returns-2 c = search needs
+returns-2 c = rw (c .before .before .before .before .before .request .given .1, ← c .before .before .read .ensures, c .enum-told2 .given .1)
 
 returns-3 : tie.Need-returns-3
-returns-3 c = search needs
+returns-3 c = rw (c .before .before .before .before .before .before .before .request .given .1, ← c .before .before .before .before .read .ensures, c .before .before .head .given .1) (c .is-call .ensures)
 
 returns-4 : tie.Need-returns-4
-returns-4 c = search needs
+returns-4 c = rw (c .before .request2 .given .1)
 
 returns-5 : tie.Need-returns-5
-returns-5 c = search needs
+returns-5 c = rw (c .before .request3 .given .1)
 
 returns-6 : tie.Need-returns-6
 returns-6 c = search needs
@@ -63,9 +62,7 @@ is-about-spec =
     (tie.spec
     enum-told
     enum-known-request
-    sub-read
-    part-read-start
-    part-read-end
+    slice-aggregate-read
     read-requires
     enum-told-2
     enum-known-head

@@ -1,22 +1,24 @@
--- `explain::put_name` meets its contract. The loop's invariant: the place lies in the table or one behind it, and the buffer is as it was.
--- Assumes nothing.
+-- `explain::put_name` meets its contract: the name that the walk over the table's lines found. Assumes nothing.
 use borrow.Author.Needs.{needs}
 use native.Mathlib.Omega.{arith}
-use mathlib.Core.Path.{_≡_}
+use mathlib.Core.Path.{_≡_, refl}
 use Prim.Native.Nat.{_+_, _-_, _≤_, _<_}
-use lib.ListN.{length}
-use lib.ListN.{take, drop, length-take, length-drop}
+use lib.ListN.{length, take, drop, length-take, length-drop}
+use Rattle.ascii.proofs.Begun.{wrote-none}
+use Rattle.explain.proofs.Tables.{Unread, unread, found, passed, none-left}
 use Rattle.explain.proofs.put_name.Statement.{statement}
 use Rattle.explain.proofs.put_name.Tie as tie
 
 abbrev Inv-loop : tie.InvT-loop
-Inv-loop out₀ at table number from₀ out from = (from ≤ length table + 1) × (length table < 18446744073709551615) × (length out ≡ length out₀) × (at + length table ≤ length out₀)
+Inv-loop out₀ at table number from₀ out from =
+    (from ≤ length table + 1) × (length table < 18446744073709551615) × (out ≡ out₀) × (length out ≡ length out₀)
+    × (at + length table ≤ length out₀) × Unread table number from
 
 abbrev μ-loop : tie.MeasureT-loop
 μ-loop out₀ at table number from₀ out from = (length table + 1) - from
 
 loop-holds : tie.Need-loop-holds Inv-loop μ-loop
-loop-holds c = search needs
+loop-holds c = (search needs, search needs, refl, search needs, search needs, unread _ _)
 
 add-name : tie.Need-add-name Inv-loop μ-loop
 add-name c = search needs
@@ -46,11 +48,14 @@ same-length c = search needs
 
 returns : tie.Need-returns Inv-loop μ-loop
 returns c =
-    let p = c .before .before .before .before .before .before .before .place-of in
+    let a = c .before .before .before .before .before .before .before .before .before .before .before .before .args in
     let l = c .before .before .before .before .before .before .before .before .before .loop in
+    let p = c .before .before .before .before .before .before .before .place-of in
     let e = p .ensures .1 .1 (omega arith) in
-    let q : length (take (p .result - (l .from + 1)) (drop (l .from + 1) (c .before .before .before .before .before .before .before .before .before .before .before .before .args .table .now))) ≤ length (c .before .before .before .before .before .before .before .before .before .before .before .before .args .table .now) = simp (length-take, length-drop) (omega arith) in
-    (omega arith, omega arith)
+    let q : length (take (p .result - (l .from + 1)) (drop (l .from + 1) (a .table .now))) ≤ length (a .table .now) = simp (length-take, length-drop) (omega arith) in (
+      rw (found (a .table .now) (a .number) (l .from) (l .inv .5) (omega arith) (c .before .before .before .before .before .if1 .taken), ← p .ensures .0, ← l .inv .2) (c .before .before .put .ensures .1),
+      (omega arith, omega arith),
+    )
 
 add-from : tie.Need-add-from Inv-loop μ-loop
 add-from c = record { fits = omega (arith, c .before .before .place-of .ensures .1 .1 (omega arith)) }
@@ -59,13 +64,27 @@ loop-less : tie.Need-loop-less Inv-loop μ-loop
 loop-less c = search needs
 
 loop-again : tie.Need-loop-again Inv-loop μ-loop
-loop-again c = let e = c .before .before .place-of .ensures .1 .1 (omega arith) in (omega arith, omega arith, search needs, omega arith)
+loop-again c =
+    let a = c .before .before .before .before .before .before .before .args in
+    let l = c .before .before .before .before .loop in
+    let p = c .before .before .place-of in
+    let e = p .ensures .1 .1 (omega arith) in (
+      omega arith,
+      omega arith,
+      l .inv .2,
+      search needs,
+      omega arith,
+      rw (p .ensures .0) (passed (a .table .now) (a .number) (l .from) (l .inv .5) (omega arith) (c .if1 .left)),
+    )
 
 same-length-2 : tie.Need-same-length-2 Inv-loop μ-loop
 same-length-2 c = search needs
 
 returns-2 : tie.Need-returns-2 Inv-loop μ-loop
-returns-2 c = search needs
+returns-2 c =
+    let a = c .before .before .before .before .args in
+    let l = c .before .loop in
+    (rw (none-left (a .table .now) (a .number) (l .from) (l .inv .5) (omega arith), l .inv .2) (wrote-none _ _), (omega arith, omega arith))
 
 pub put-name-spec : {M : Type 1} → statement M
 put-name-spec =

@@ -1,5 +1,8 @@
--- `explain::put_request` meets its contract: as many octets came as the request says. Assumes nothing.
+-- `explain::put_request` meets its contract: each text by the variant that led to it. Assumes nothing.
 use borrow.Author.Needs.{needs}
+use native.Mathlib.Omega.{arith}
+use lib.ListN.{length-take}
+use Rattle.octets.proofs.Stores.{chain}
 use Rattle.explain.proofs.put_request.Statement.{statement}
 use Rattle.explain.proofs.put_request.Tie as tie
 
@@ -15,14 +18,10 @@ put-requires c κs = search needs
 enum-known-request : tie.Need-enum-known-request
 enum-known-request c = search needs
 
-sub-put-message : tie.Need-sub-put-message
-sub-put-message c = search needs
-
-part-put-message-start : tie.Need-part-put-message-start
-part-put-message-start c = search needs
-
-part-put-message-end : tie.Need-part-put-message-end
-part-put-message-end c = rw (c .before .before .request .given .1) at (c .before .before .before .before .before .before .pre .1)
+slice-aggregate-put-message : tie.Need-slice-aggregate-put-message
+slice-aggregate-put-message c =
+    let h = rw (c .before .before .before .request .given .1) at (c .before .before .before .before .before .before .before .pre .1) in
+    simp length-take (omega arith)
 
 put-message-requires : tie.Need-put-message-requires
 put-message-requires c κs = search needs
@@ -61,31 +60,31 @@ same-length : tie.Need-same-length
 same-length c = search needs
 
 returns : tie.Need-returns
-returns c = search needs
+returns c = (rw (c .before .before .before .before .before .enum-told .given .1) (c .before .before .put .ensures .1), (omega arith, omega arith))
 
 same-length-2 : tie.Need-same-length-2
 same-length-2 c = search needs
 
 returns-2 : tie.Need-returns-2
-returns-2 c = search needs
+returns-2 c = (rw (c .before .before .before .before .before .before .request .given .1) (c .before .before .put-message .ensures .0), (omega arith, omega arith))
 
 same-length-3 : tie.Need-same-length-3
 same-length-3 c = search needs
 
 returns-3 : tie.Need-returns-3
-returns-3 c = search needs
+returns-3 c = (rw (c .before .before .before .before .before .before .request2 .given .1) (c .before .before .put-labelled .ensures .0), (omega arith, omega arith))
 
 same-length-4 : tie.Need-same-length-4
 same-length-4 c = search needs
 
 returns-4 : tie.Need-returns-4
-returns-4 c = search needs
+returns-4 c = (rw (c .before .before .before .before .before .before .before .before .before .before .request3 .given .1) (chain (c .before .before .before .before .before .before .put-labelled2 .ensures .0) (c .before .before .put-wide-cause .ensures .0)), (omega arith, omega arith))
 
 same-length-5 : tie.Need-same-length-5
 same-length-5 c = search needs
 
 returns-5 : tie.Need-returns-5
-returns-5 c = search needs
+returns-5 c = (rw (c .before .before .before .before .before .enum-told2 .given .1) (c .before .before .put2 .ensures .1), (omega arith, omega arith))
 
 pub put-request-spec : {M : Type 1} → statement M
 put-request-spec =
@@ -95,9 +94,7 @@ put-request-spec =
     slice-aggregate-put
     put-requires
     enum-known-request
-    sub-put-message
-    part-put-message-start
-    part-put-message-end
+    slice-aggregate-put-message
     put-message-requires
     enum-known-request-2
     slice-aggregate-put-labelled

@@ -1,0 +1,157 @@
+-- The line for people behind an answer: what came in, why it was refused, what went out, and what became of the calls.
+--   kindText, causeText, messageText    a message: its type, flag, call reference and cause
+--   requestText, replyText              what came in, and what went out
+--   timerText, callText, slotText       what a slot holds
+--   sameDue, samePhase, isSame          if two slots hold the same call in the same state
+--   isAbout                             if an event is about the call of a slot
+--   changeText, slotsText               slots before and after
+--   lineText                            the whole line
+-- Assumes nothing.
+use Prim.Native.Nat.{ℕ, _+_}
+use mathlib.Core.Bool.{Bool, true, false, cond, not, _&&_, _||_}
+use mathlib.Core.List.{List, [], _∷_, _++_}
+use lib.Dec.{eqb, ltb}
+use lib.ListN.{length, take, getD}
+use Rattle.ascii.specs.Ascii.{word, decimalText}
+use Rattle.header.specs.declared.Header.{Header}
+use Rattle.header.specs.declared.Head.{Head}
+use Rattle.header.specs.declared.Head.the-variants.{Ignored, Is}
+use Rattle.header.specs.Header.{headOf}
+use Rattle.elements.specs.declared.CauseRead.{CauseRead}
+use Rattle.elements.specs.declared.CauseRead.the-variants.{Absent, Unreadable, Number}
+use Rattle.elements.specs.Values.{causeIn}
+use Rattle.calls.specs.declared.Phase.{Phase}
+use Rattle.calls.specs.declared.Phase.the-variants.{N3, N6, N9, N10, N12}
+use Rattle.calls.specs.declared.Call.{Call}
+use Rattle.calls.specs.declared.Hold.{Hold}
+use Rattle.calls.specs.declared.Hold.the-variants.{Empty, Live}
+use Rattle.calls.specs.declared.Slot.{Slot}
+use Rattle.calls.specs.declared.Due.{Due}
+use Rattle.calls.specs.declared.Due.the-variants.{Never, At}
+use Rattle.calls.specs.Calls.{stateNumber, noSlot, emptyHold, named, isCall}
+use Rattle.calls.specs.Timers.{phaseDue}
+use Rattle.script.specs.declared.Request.{Request}
+use Rattle.script.specs.declared.Request.the-variants.{Tick, Message, Connect, Clear, Offer}
+use Rattle.explain.specs.Names.{nameIn, kindNames, causeNames, refusalNames}
+
+-- a name, or what stands for one where there is none
+abbrev pub orElse : List ℕ → List ℕ → List ℕ
+orElse [] other = other
+orElse (o ∷ name) other = o ∷ name
+
+abbrev pub kindText : ℕ → List ℕ
+kindText kind = orElse (nameIn kindNames kind) (word "message type " ++ decimalText kind)
+
+abbrev pub causeText : ℕ → List ℕ
+causeText cause = word " cause " ++ decimalText cause ++ nameIn causeNames cause
+
+abbrev pub flagText : Bool → List ℕ
+flagText flag = cond flag (word " flag 1 reference ") (word " flag 0 reference ")
+
+abbrev pub headerText : Header → List ℕ
+headerText head = kindText (head .kind) ++ flagText (head .flag) ++ decimalText (head .reference)
+
+-- the cause, where it can be read
+abbrev pub foundText : CauseRead → List ℕ
+foundText Absent = []
+foundText Unreadable = []
+foundText (Number cause) = causeText cause
+
+-- a message with the elements behind its header
+abbrev pub headText : Head → CauseRead → List ℕ
+headText Ignored cause = word "no message of ours"
+headText (Is head) cause = headerText head ++ foundText cause
+
+abbrev pub messageText : List ℕ → List ℕ
+messageText m = headText (headOf m) (causeIn m 9)
+
+-- the cause of a clear, if it is one
+abbrev pub clearText : ℕ → List ℕ
+clearText cause = cond (ltb cause 128) (causeText cause) (word " no cause")
+
+-- what came in, where `came` begins with the octets that came
+abbrev pub requestText : Request → List ℕ → List ℕ
+requestText Tick came = word "tick"
+requestText (Message n) came = messageText (take n came)
+requestText (Connect slot) came = word "connect slot " ++ decimalText slot
+requestText (Clear slot cause) came = word "clear slot " ++ decimalText slot ++ clearText cause
+requestText (Offer n) came = word "offer"
+
+-- what went out, if anything did
+abbrev pub replyText : List ℕ → List ℕ
+replyText reply = cond (eqb (length reply) 0) [] (word "; out " ++ messageText reply)
+
+abbrev pub timerText : Phase → List ℕ
+timerText N3 = []
+timerText (N6 deadline) = word " T303 until " ++ decimalText deadline
+timerText (N9 deadline) = word " T310 until " ++ decimalText deadline
+timerText N10 = []
+timerText (N12 clearing) = word " T308 until " ++ decimalText (clearing .deadline)
+
+abbrev pub callText : Call → List ℕ
+callText call =
+    (word " N" ++ decimalText (stateNumber (call .phase)))
+    ++ (word " VPCI " ++ decimalText (call .vpci))
+    ++ (word " VCI " ++ decimalText (call .vci))
+    ++ timerText (call .phase)
+
+abbrev pub holdText : Hold → List ℕ
+holdText Empty = word " empty"
+holdText (Live call) = callText call
+
+abbrev pub slotText : Slot → List ℕ
+slotText slot = holdText (slot .hold)
+
+abbrev pub sameDue : Due → Due → Bool
+sameDue Never Never = true
+sameDue Never (At e) = false
+sameDue (At d) Never = false
+sameDue (At d) (At e) = eqb d e
+
+abbrev pub samePhase : Phase → Phase → Bool
+samePhase p q = eqb (stateNumber p) (stateNumber q) && sameDue (phaseDue p) (phaseDue q)
+
+-- the same call in the same state, with the same deadline
+abbrev pub sameCall : Call → Hold → Bool
+sameCall c Empty = false
+sameCall c (Live d) = named (c .network) (c .reference) (Live d) && samePhase (c .phase) (d .phase)
+
+abbrev pub sameHold : Hold → Hold → Bool
+sameHold Empty h = emptyHold h
+sameHold (Live c) h = sameCall c h
+
+abbrev pub isSame : Slot → Slot → Bool
+isSame before after = sameHold (before .hold) (after .hold)
+
+abbrev pub isFor : Head → Slot → Bool
+isFor Ignored slot = false
+isFor (Is head) slot = isCall (head .flag) (head .reference) slot
+
+-- a message is about the call that it names, connect and clear about the slot with their number
+abbrev pub isAbout : Request → List ℕ → ℕ → Slot → Bool
+isAbout Tick came i slot = false
+isAbout (Message n) came i slot = isFor (headOf (take n came)) slot
+isAbout (Connect number) came i slot = eqb number i
+isAbout (Clear number cause) came i slot = eqb number i
+isAbout (Offer n) came i slot = false
+
+abbrev pub changeText : ℕ → Slot → Slot → List ℕ
+changeText i before after = (word "; slot " ++ decimalText i) ++ slotText before ++ word " to" ++ slotText after
+
+abbrev pub noteText : ℕ → Slot → Slot → Bool → List ℕ
+noteText i before after about = cond (about || not (isSame before after)) (changeText i before after) []
+
+-- the slots from number i on that the event is about or that it changed
+abbrev pub slotsText : Request → List ℕ → ℕ → List Slot → List Slot → List ℕ
+slotsText request came i [] after = []
+slotsText request came i (slot ∷ slots) after =
+    noteText i slot (getD after i noSlot) (isAbout request came i slot) ++ slotsText request came (i + 1) slots after
+
+abbrev pub lineText : Request → List ℕ → ℕ → List ℕ → List Slot → List Slot → List ℕ
+lineText request came refusal reply before after =
+    word "# in "
+    ++ requestText request came
+    ++ nameIn refusalNames refusal
+    ++ replyText reply
+    ++ slotsText request came 0 before after
+    ++ word "\n"
