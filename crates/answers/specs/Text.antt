@@ -11,7 +11,7 @@ use mathlib.Core.Bool.{Bool, true, false, cond}
 use mathlib.Core.List.{List, [], _∷_, _++_}
 use lib.Dec.{eqb, ltb}
 use lib.ListN.{length}
-use Rattle.ascii.specs.Ascii.{decimalText}
+use Rattle.ascii.specs.Ascii.{orElse, decimalText}
 
 -- a digit below 16: 0 to 9, then a to f
 abbrev pub hexGlyph : ℕ → ℕ
@@ -34,13 +34,9 @@ abbrev pub slotsText : ℕ → Bool → List Bool → List ℕ
 slotsText i first [] = []
 slotsText i first (on ∷ s) = cond on (slotText i first ++ slotsText (i + 1) false s) (slotsText (i + 1) first s)
 
-abbrev pub orNone : List ℕ → List ℕ
-orNone [] = 45 ∷ []
-orNone (o ∷ s) = o ∷ s
-
 -- "FLAGS the slot numbers in ascending order joined by commas or `-`"
 abbrev pub flagsText : List Bool → List ℕ
-flagsText on = orNone (slotsText 0 true on)
+flagsText on = orElse (slotsText 0 true on) (45 ∷ [])
 
 -- "MORE 0 or 1", and the line end
 abbrev pub moreText : Bool → List ℕ

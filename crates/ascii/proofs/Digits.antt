@@ -25,7 +25,8 @@ few-within (suc k) (suc steps) n h = by-test (ltb n 10)
     (λ e. rw (e, length-append) (omega (arith, few-within k steps (n / 10) (omega (arith, pow-suc 10 (suc k))))))
 
 pub few-digits : (k n : ℕ) → n < 10 ^ suc k → length (decimalText n) ≤ suc k
-few-digits k n h = few-within k n n h
+unfolding decimalText
+few-digits k n h = few-within k 19 n h
 
 last : (n : ℕ) → glyph (n % 10) ≡ 48 + n % 10
 last n = rw (lt-ltb (n % 10) 10 (omega arith))
@@ -44,14 +45,15 @@ tenth n k f =
     let e : suc k - 1 ≡ k = omega arith in
     (omega arith, omega (arith, pow-suc 10 (suc k)), λ h. rw e (omega (arith, least n k f)))
 
-spelled-within : (k steps n : ℕ) → n ≤ steps → Fewest 10 1 n k → digits 10 k n ≡ decimalWithin steps n
+spelled-within : (k steps n : ℕ) → n < 10 ^ suc steps → Fewest 10 1 n k → digits 10 k n ≡ decimalWithin steps n
 spelled-within zero steps n h f = absurd (omega (arith, f .0))
-spelled-within (suc zero) zero n h f = rw (only n (omega arith))
+spelled-within (suc zero) zero n h f = rw (only n h)
 spelled-within (suc zero) (suc steps) n h f = rw (lt-ltb n 10 (f .1), only n (f .1))
 spelled-within (suc (suc k)) zero n h f = absurd (omega (arith, least n k f, one-le-pow k 10 (omega arith)))
 spelled-within (suc (suc k)) (suc steps) n h f =
     let many : 10 ≤ n = omega (arith, least n k f, one-le-pow k 10 (omega arith)) in
-    rw (le-ltb n 10 many, last n, ← spelled-within (suc k) steps (n / 10) (omega arith) (tenth n k f))
+    rw (le-ltb n 10 many, last n, ← spelled-within (suc k) steps (n / 10) (omega (arith, pow-suc 10 (suc steps))) (tenth n k f))
 
-pub spelled : (n k : ℕ) → Fewest 10 1 n k → digits 10 k n ≡ decimalText n
-spelled n k f = spelled-within k n n (omega arith) f
+pub spelled : (n k : ℕ) → n < 10 ^ 20 → Fewest 10 1 n k → digits 10 k n ≡ decimalText n
+unfolding decimalText
+spelled n k h f = spelled-within k 19 n h f

@@ -1,5 +1,6 @@
 -- Text in ASCII.
---   word                       the octets of a text
+--   word                         the octets of a text
+--   orElse                       octets, or others where there are none
 --   decimalWithin, decimalText   a number in decimal
 -- Assumes nothing.
 use Prim.Native.Nat.{ℕ, zero, suc, _+_, _/_, _%_}
@@ -9,15 +10,20 @@ use mathlib.Core.Bool.{cond}
 use mathlib.Core.List.{List, [], _∷_, _++_}
 use lib.Dec.{ltb}
 
+-- the octets of a text whose characters are ASCII's
 abbrev pub word : String → List ℕ
 word nothing = []
 word (c before s) = code c ∷ word s
 
--- a number's digits, the last by its remainder and the others by its tenth, in at most k steps of this kind
+abbrev pub orElse : List ℕ → List ℕ → List ℕ
+orElse [] other = other
+orElse (o ∷ s) other = o ∷ s
+
+-- a number's digits: the last is its remainder, and the others are those of its tenth; at most k before the last
 abbrev pub decimalWithin : ℕ → ℕ → List ℕ
 decimalWithin zero n = (48 + n) ∷ []
 decimalWithin (suc k) n = cond (ltb n 10) ((48 + n) ∷ []) (decimalWithin k (n / 10) ++ (48 + n % 10) ∷ [])
 
--- a number has fewer digits than its value, or one
-abbrev pub decimalText : ℕ → List ℕ
-decimalText n = decimalWithin n n
+-- a number below 10^20; 2^64 is less
+unfoldable pub decimalText : ℕ → List ℕ
+decimalText n = decimalWithin 19 n

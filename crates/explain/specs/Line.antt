@@ -1,4 +1,5 @@
--- The line for people behind an answer: what came in, why it was refused, what went out, and what became of the calls.
+-- The line for people behind an answer (docs/FORMATS.md, "Lines for people"): what came in, why it was refused, what went out,
+-- and what became of the calls.
 --   kindText, causeText, messageText    a message: its type, flag, call reference and cause
 --   requestText, replyText              what came in, and what went out
 --   timerText, callText, slotText       what a slot holds
@@ -12,7 +13,7 @@ use mathlib.Core.Bool.{Bool, true, false, cond, not, _&&_, _||_}
 use mathlib.Core.List.{List, [], _∷_, _++_}
 use lib.Dec.{eqb, ltb}
 use lib.ListN.{length, take, getD}
-use Rattle.ascii.specs.Ascii.{word, decimalText}
+use Rattle.ascii.specs.Ascii.{word, orElse, decimalText}
 use Rattle.header.specs.declared.Header.{Header}
 use Rattle.header.specs.declared.Head.{Head}
 use Rattle.header.specs.declared.Head.the-variants.{Ignored, Is}
@@ -34,14 +35,11 @@ use Rattle.script.specs.declared.Request.{Request}
 use Rattle.script.specs.declared.Request.the-variants.{Tick, Message, Connect, Clear, Offer}
 use Rattle.explain.specs.Names.{nameIn, kindNames, causeNames, refusalNames}
 
--- a name, or what stands for one where there is none
-abbrev pub orElse : List ℕ → List ℕ → List ℕ
-orElse [] other = other
-orElse (o ∷ name) other = o ∷ name
-
+-- "its type by name (`message type N` for an unknown one)"
 abbrev pub kindText : ℕ → List ℕ
 kindText kind = orElse (nameIn kindNames kind) (word "message type " ++ decimalText kind)
 
+-- "`cause C`, and its name in source 001"
 abbrev pub causeText : ℕ → List ℕ
 causeText cause = word " cause " ++ decimalText cause ++ nameIn causeNames cause
 
@@ -51,25 +49,25 @@ flagText flag = cond flag (word " flag 1 reference ") (word " flag 0 reference "
 abbrev pub headerText : Header → List ℕ
 headerText head = kindText (head .kind) ++ flagText (head .flag) ++ decimalText (head .reference)
 
--- the cause, where it can be read
+-- "the cause if its element 08 can be read"
 abbrev pub foundText : CauseRead → List ℕ
 foundText Absent = []
 foundText Unreadable = []
 foundText (Number cause) = causeText cause
 
--- a message with the elements behind its header
 abbrev pub headText : Head → CauseRead → List ℕ
 headText Ignored cause = word "no message of ours"
 headText (Is head) cause = headerText head ++ foundText cause
 
+-- "A MESSAGE": its header, and the cause among the elements behind it
 abbrev pub messageText : List ℕ → List ℕ
 messageText m = headText (headOf m) (causeIn m 9)
 
--- the cause of a clear, if it is one
+-- "A clear with a number over 127 has `no cause`."
 abbrev pub clearText : ℕ → List ℕ
 clearText cause = cond (ltb cause 128) (causeText cause) (word " no cause")
 
--- what came in, where `came` begins with the octets that came
+-- "EVENT"; `came` begins with the octets that came
 abbrev pub requestText : Request → List ℕ → List ℕ
 requestText Tick came = word "tick"
 requestText (Message n) came = messageText (take n came)
@@ -77,10 +75,11 @@ requestText (Connect slot) came = word "connect slot " ++ decimalText slot
 requestText (Clear slot cause) came = word "clear slot " ++ decimalText slot ++ clearText cause
 requestText (Offer n) came = word "offer"
 
--- what went out, if anything did
+-- "out MESSAGE", if something went out
 abbrev pub replyText : List ℕ → List ℕ
 replyText reply = cond (eqb (length reply) 0) [] (word "; out " ++ messageText reply)
 
+-- "the running timer with its deadline"
 abbrev pub timerText : Phase → List ℕ
 timerText N3 = []
 timerText (N6 deadline) = word " T303 until " ++ decimalText deadline
@@ -88,6 +87,7 @@ timerText (N9 deadline) = word " T310 until " ++ decimalText deadline
 timerText N10 = []
 timerText (N12 clearing) = word " T308 until " ++ decimalText (clearing .deadline)
 
+-- "the state, the pair and the running timer"
 abbrev pub callText : Call → List ℕ
 callText call =
     (word " N" ++ decimalText (stateNumber (call .phase)))
@@ -111,7 +111,7 @@ sameDue (At d) (At e) = eqb d e
 abbrev pub samePhase : Phase → Phase → Bool
 samePhase p q = eqb (stateNumber p) (stateNumber q) && sameDue (phaseDue p) (phaseDue q)
 
--- the same call in the same state, with the same deadline
+-- "its call, its state or its deadline" did not change
 abbrev pub sameCall : Call → Hold → Bool
 sameCall c Empty = false
 sameCall c (Live d) = named (c .network) (c .reference) (Live d) && samePhase (c .phase) (d .phase)
@@ -127,7 +127,7 @@ abbrev pub isFor : Head → Slot → Bool
 isFor Ignored slot = false
 isFor (Is head) slot = isCall (head .flag) (head .reference) slot
 
--- a message is about the call that it names, connect and clear about the slot with their number
+-- "the message names its call", "connect or clear names its number"
 abbrev pub isAbout : Request → List ℕ → ℕ → Slot → Bool
 isAbout Tick came i slot = false
 isAbout (Message n) came i slot = isFor (headOf (take n came)) slot
@@ -135,18 +135,21 @@ isAbout (Connect number) came i slot = eqb number i
 isAbout (Clear number cause) came i slot = eqb number i
 isAbout (Offer n) came i slot = false
 
+-- "slot N BEFORE to AFTER"
 abbrev pub changeText : ℕ → Slot → Slot → List ℕ
 changeText i before after = (word "; slot " ++ decimalText i) ++ slotText before ++ word " to" ++ slotText after
 
+-- a slot "is shown if" the event is about it "or if the event changed" it
 abbrev pub noteText : ℕ → Slot → Slot → Bool → List ℕ
 noteText i before after about = cond (about || not (isSame before after)) (changeText i before after) []
 
--- the slots from number i on that the event is about or that it changed
+-- the slots before the event from number i on, each with what it is after the event
 abbrev pub slotsText : Request → List ℕ → ℕ → List Slot → List Slot → List ℕ
 slotsText request came i [] after = []
 slotsText request came i (slot ∷ slots) after =
     noteText i slot (getD after i noSlot) (isAbout request came i slot) ++ slotsText request came (i + 1) slots after
 
+-- "# in EVENT; refused: WHY; out MESSAGE; slot N BEFORE to AFTER .."
 abbrev pub lineText : Request → List ℕ → ℕ → List ℕ → List Slot → List Slot → List ℕ
 lineText request came refusal reply before after =
     word "# in "

@@ -42,7 +42,7 @@ kindNames =
     ++ row 0x75 "STATUS ENQUIRY"
     ++ row 0x7D "STATUS"
 
--- the causes of source 001 that the host may use or that we send
+-- the causes that the host may use or that we send, by their names in source 001 (that of 28 shortened)
 unfoldable pub causeNames : List ℕ
 causeNames =
     row 1 " unallocated (unassigned) number"

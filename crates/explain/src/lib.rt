@@ -13,13 +13,13 @@ use header::Header;
 use script::Request;
 ghost use mathlib.Core.Path.{_≡_};
 ghost use mathlib.Core.List.{_++_};
-ghost use Prim.Native.Nat.{_+_, _≤_, _<_};
+ghost use Prim.Native.Nat.{_+_, _≤_};
 ghost use lib.ListN.{length};
 ghost use Rattle.octets.specs.Octets.{Wrote};
 ghost use Rattle.ascii.specs.Ascii.{decimalText};
 ghost use Rattle.elements.specs.Values.{causeIn};
 ghost use Rattle.script.specs.Lines.{Asks};
-ghost use Rattle.explain.specs.Names.{nameIn, causeNames, refusalNames};
+ghost use Rattle.explain.specs.Names.{nameIn, refusalNames};
 ghost use Rattle.explain.specs.Line.{kindText, causeText, flagText, headerText, foundText, messageText, clearText, requestText, replyText, timerText, callText, slotText, sameDue, samePhase, isSame, isAbout, changeText, noteText, slotsText, lineText};
 
 // Tables of names: in each line the number is the first octet, and the name follows.

@@ -1,10 +1,10 @@
 -- `answers::put_flags` meets its contract: the numbers, or what stands for none. Assumes nothing.
 use borrow.Author.Needs.{needs}
 use native.Mathlib.Omega.{arith}
-use mathlib.Core.Path.{_≡_, refl, sym, _∙_}
 use Rattle.answers.specs.Text.{slotsText}
 use mathlib.Core.Bool.{true}
-use Rattle.answers.proofs.Texts.{none-joined, some-joined}
+use mathlib.Core.List.{[], _∷_}
+use Rattle.ascii.proofs.Pieces.{was-none, was-some}
 use Rattle.answers.proofs.put_flags.Statement.{statement}
 use Rattle.answers.proofs.put_flags.Tie as tie
 
@@ -24,7 +24,7 @@ returns : tie.Need-returns
 returns c =
     let a = c .before .before .before .before .before .before .before .before .before .before .before .args in
     let w = c .before .before .before .before .before .before .before .before .put-slots .ensures .0 in
-    let e = none-joined (slotsText 0 true (a .flags .on)) (a .out .now) (a .at) _ _ w (c .before .before .before .before .before .if1 .taken) in
+    let e = was-none (slotsText 0 true (a .flags .on)) (45 ∷ []) (a .out .now) (a .at) _ _ w (omega arith) in
     (rw (e .0, ← e .1) (c .before .before .put .ensures .1), (rw (e .0) (c .before .before .put .ensures .0), omega arith, omega arith))
 
 same-length-2 : tie.Need-same-length-2
@@ -34,7 +34,7 @@ returns-2 : tie.Need-returns-2
 returns-2 c =
     let a = c .before .before .before .before .before .before .args in
     let w = c .before .before .before .put-slots .ensures in
-    (rw (some-joined (slotsText 0 true (a .flags .on)) (a .out .now) (a .at) _ _ (w .0) (c .if1 .left)) (w .0), (rw (some-joined (slotsText 0 true (a .flags .on)) (a .out .now) (a .at) _ _ (w .0) (c .if1 .left)) (w .0 .past), omega arith, omega arith))
+    (rw (was-some (slotsText 0 true (a .flags .on)) (45 ∷ []) (a .out .now) (a .at) _ _ (w .0) (omega (arith, c .if1 .left))) (w .0), (rw (was-some (slotsText 0 true (a .flags .on)) (45 ∷ []) (a .out .now) (a .at) _ _ (w .0) (omega (arith, c .if1 .left))) (w .0 .past), omega arith, omega arith))
 
 pub put-flags-spec : {M : Type 1} → statement M
 put-flags-spec =

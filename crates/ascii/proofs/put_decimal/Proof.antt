@@ -19,7 +19,7 @@ put-requires : tie.Need-put-requires
 put-requires c κs =
     let n = c .before .before .before .before .before .args .n in
     let d = c .before .before .decimal in
-    rw (d .ensures .1 .1 ∙ spelled n (d .result) (d .ensures .1 .0)) (omega (arith, few-digits 19 n (omega arith)))
+    rw (d .ensures .1 .1 ∙ spelled n (d .result) (omega arith) (d .ensures .1 .0)) (omega (arith, few-digits 19 n (omega arith)))
 
 same-length : tie.Need-same-length
 same-length c = search needs
@@ -28,7 +28,7 @@ returns : tie.Need-returns
 returns c =
     let n = c .before .before .before .before .before .before .before .before .args .n in
     let d = c .before .before .before .before .before .decimal in
-    let e = d .ensures .1 .1 ∙ spelled n (d .result) (d .ensures .1 .0) in
+    let e = d .ensures .1 .1 ∙ spelled n (d .result) (omega arith) (d .ensures .1 .0) in
     let w = rw e at (c .before .before .put .ensures .1) in
     (w, (w .past, omega arith, omega (arith, w .past, few-digits 19 n (omega arith))))
 

@@ -1,7 +1,6 @@
 -- `explain::is_about` meets its contract: each answer by the variants that led to it. Assumes nothing.
 use borrow.Author.Needs.{needs}
 use native.Mathlib.Omega.{arith}
-use mathlib.Core.Path.{sym, _∙_}
 use lib.ListN.{length-take}
 use Rattle.explain.proofs.is_about.Statement.{statement}
 use Rattle.explain.proofs.is_about.Tie as tie

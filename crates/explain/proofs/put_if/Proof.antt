@@ -1,8 +1,7 @@
 -- `explain::put_if` meets its contract: each text by the tests that led to it. Assumes nothing.
 use borrow.Author.Needs.{needs}
 use native.Mathlib.Omega.{arith}
-use mathlib.Core.Path.{sym, _∙_}
-use Rattle.ascii.proofs.Begun.{wrote-none}
+use Rattle.ascii.proofs.Pieces.{wrote-none}
 use Rattle.explain.proofs.put_if.Statement.{statement}
 use Rattle.explain.proofs.put_if.Tie as tie
 

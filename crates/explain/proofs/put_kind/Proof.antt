@@ -3,7 +3,7 @@ use borrow.Author.Needs.{needs}
 use native.Mathlib.Omega.{arith}
 use Rattle.octets.proofs.Stores.{chain}
 use Rattle.explain.specs.Names.{nameIn, kindNames}
-use Rattle.explain.proofs.Tables.{no-name, some-name}
+use Rattle.ascii.proofs.Pieces.{was-none, was-some}
 use mathlib.Core.List.{_++_}
 use Rattle.ascii.specs.Ascii.{word, decimalText}
 use Rattle.explain.proofs.put_kind.Statement.{statement}
@@ -23,7 +23,7 @@ unfolding kindNames
 returns c =
     let a = c .before .before .before .before .before .before .before .args in
     let w = c .before .before .before .put-name .ensures in
-    (rw (some-name (nameIn kindNames (a .kind)) (word "message type " ++ decimalText (a .kind)) (a .out .now) (a .at) _ _ (w .0) (c .if1 .taken)) (w .0), (omega arith, omega arith))
+    (rw (was-some (nameIn kindNames (a .kind)) (word "message type " ++ decimalText (a .kind)) (a .out .now) (a .at) _ _ (w .0) (c .if1 .taken)) (w .0), (omega arith, omega arith))
 
 slice-aggregate-put : tie.Need-slice-aggregate-put
 slice-aggregate-put c = search needs
@@ -42,7 +42,7 @@ unfolding kindNames
 returns-2 c =
     let a = c .before .before .before .before .before .before .before .before .before .before .before .before .before .before .before .before .args in
     let w = c .before .before .before .before .before .before .before .before .before .before .before .before .put-name .ensures in
-    let e = no-name (nameIn kindNames (a .kind)) (word "message type " ++ decimalText (a .kind)) (a .out .now) (a .at) _ _ (w .0) (c .before .before .before .before .before .before .before .before .before .if1 .left) in
+    let e = was-none (nameIn kindNames (a .kind)) (word "message type " ++ decimalText (a .kind)) (a .out .now) (a .at) _ _ (w .0) (c .before .before .before .before .before .before .before .before .before .if1 .left) in
     (rw (e .0, ← e .1) (chain (c .before .before .before .before .before .before .put .ensures .1) (c .before .before .put-octet .ensures .0)), (omega arith, omega arith))
 
 pub put-kind-spec : {M : Type 1} → statement M

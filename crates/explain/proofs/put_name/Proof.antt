@@ -4,8 +4,8 @@ use native.Mathlib.Omega.{arith}
 use mathlib.Core.Path.{_≡_, refl}
 use Prim.Native.Nat.{_+_, _-_, _≤_, _<_}
 use lib.ListN.{length, take, drop, length-take, length-drop}
-use Rattle.ascii.proofs.Begun.{wrote-none}
-use Rattle.explain.proofs.Tables.{Unread, unread, found, passed, none-left}
+use Rattle.ascii.proofs.Pieces.{wrote-none}
+use Rattle.explain.proofs.Tables.{Unread, all-unread, found, passed, none-left}
 use Rattle.explain.proofs.put_name.Statement.{statement}
 use Rattle.explain.proofs.put_name.Tie as tie
 
@@ -18,7 +18,7 @@ abbrev μ-loop : tie.MeasureT-loop
 μ-loop out₀ at table number from₀ out from = (length table + 1) - from
 
 loop-holds : tie.Need-loop-holds Inv-loop μ-loop
-loop-holds c = (search needs, search needs, refl, search needs, search needs, unread _ _)
+loop-holds c = (search needs, search needs, refl, search needs, search needs, all-unread _ _)
 
 add-name : tie.Need-add-name Inv-loop μ-loop
 add-name c = search needs

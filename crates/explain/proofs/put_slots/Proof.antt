@@ -5,7 +5,7 @@ use mathlib.Core.Path.{_≡_}
 use Prim.Native.Nat.{_+_, _*_, _-_, _≤_}
 use lib.ListN.{length, length-map}
 use Rattle.script.specs.Lines.{Asks}
-use Rattle.explain.proofs.Tables.{Shown, shown-none, shown-more, shown-all}
+use Rattle.explain.proofs.Shown.{Shown, shown-none, shown-more, shown-all}
 use Rattle.explain.proofs.put_slots.Statement.{statement}
 use Rattle.explain.proofs.put_slots.Tie as tie
 

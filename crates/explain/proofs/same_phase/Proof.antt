@@ -1,6 +1,5 @@
 -- `explain::same_phase` meets its contract: each answer by the test that led to it. Assumes nothing.
 use borrow.Author.Needs.{needs}
-use mathlib.Core.Path.{sym, _∙_}
 use borrow.Author.Tests.{eq-eqb, ne-eqb}
 use Rattle.explain.proofs.same_phase.Statement.{statement}
 use Rattle.explain.proofs.same_phase.Tie as tie
