@@ -2,13 +2,18 @@
 # Runs a program and the reference on a generated script and stops at the
 # first answer that differs.
 # usage: compare.sh PROGRAM SEED EVENTS
+#        compare.sh PROGRAM SEED COUNT forms    as forms.sh does
 set -eu
 export LC_ALL=C
 
-if [ $# -ne 3 ]; then
+case $#${4:-} in
+3) maker=generate things=events ;;
+4forms) maker=forms things="damaged forms" ;;
+*)
     echo "usage: compare.sh PROGRAM SEED EVENTS" >&2
     exit 2
-fi
+    ;;
+esac
 manifest=$(dirname "$0")/Cargo.toml
 
 run() {
@@ -17,12 +22,12 @@ run() {
 
 work=$(mktemp -d)
 trap 'rm -rf "$work"' EXIT
-run generate "$2" "$3" >"$work/script"
+run "$maker" "$2" "$3" >"$work/script"
 run reference <"$work/script" >"$work/reference"
 "$1" <"$work/script" >"$work/program" || echo "program: exit status $?" >&2
 
 if cmp -s "$work/program" "$work/reference"; then
-    echo "$3 events compared, 0 differences"
+    echo "$3 $things compared, 0 differences"
     exit 0
 fi
 

@@ -13,8 +13,8 @@
 //! ```
 //!
 //! An event is a line of the protocol. Its octets may also be written as
-//! `TYPE FLAG/VALUE [ELEMENTS]`, in an offer as `[ELEMENTS]`. Empty lines and
-//! lines that begin with `#` are skipped.
+//! `TYPE FLAG/VALUE [ELEMENTS]`, in an offer as `[ELEMENTS]`, in a reload as
+//! `[FIELDS]`. Empty lines and lines that begin with `#` are skipped.
 
 mod notation;
 

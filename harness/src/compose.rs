@@ -1,4 +1,5 @@
-//! Writes messages and elements, right ones and damaged ones.
+//! Writes messages and elements, right ones and damaged ones, and fields of
+//! saved forms.
 
 use crate::decode::{Pair, BEARER, CALLED, CONNECTION, QOS, TRAFFIC};
 
@@ -29,6 +30,17 @@ pub fn raw(id: u8, octet2: u8, length: usize, contents: &[u8]) -> Vec<u8> {
 /// An element with octet 2 80 and the right length.
 pub fn element(id: u8, contents: &[u8]) -> Vec<u8> {
     raw(id, 0x80, contents.len(), contents)
+}
+
+/// A field of a saved form whose length may lie.
+pub fn raw_field(tag: u8, length: usize, contents: &[u8]) -> Vec<u8> {
+    let [.., high, low] = length.to_be_bytes();
+    [&[tag, high, low], contents].concat()
+}
+
+/// A field of a saved form.
+pub fn field(tag: u8, contents: &[u8]) -> Vec<u8> {
+    raw_field(tag, contents.len(), contents)
 }
 
 /// A connection identifier.

@@ -4,7 +4,9 @@ mod call;
 mod host;
 mod message;
 mod pool;
+mod reload;
 mod restart;
+mod save;
 mod setup;
 mod timer;
 mod write;
@@ -28,7 +30,7 @@ pub const READING_LIMIT: u64 = 4_000_000_000_000;
 /// The longest message.
 pub const MESSAGE_LIMIT: usize = 1_024;
 
-/// What every event but start carries.
+/// What every event but start, save and reload carries.
 #[derive(Clone, Copy, Debug, PartialEq, Eq)]
 pub struct Request {
     pub label: u64,

@@ -6,6 +6,7 @@ mod hosts;
 mod lines;
 mod refusals;
 mod restarts;
+mod saves;
 mod setups;
 mod starts;
 mod steps;
@@ -57,6 +58,8 @@ struct Seen<'a> {
     call: Option<(usize, Call)>,
     /// The table after the event.
     after: Option<&'a Table>,
+    /// The table that the last reload gave, if no start came since.
+    reloaded: Option<&'a Table>,
 }
 
 impl Seen<'_> {
@@ -118,6 +121,7 @@ fn timer(state: State) -> &'static str {
 pub struct Coverage {
     rows: Rows,
     exchange: Exchange,
+    reloaded: Option<Table>,
 }
 
 impl Default for Coverage {
@@ -136,9 +140,11 @@ impl Default for Coverage {
         hosts::list(&mut rows);
         timers::list(&mut rows);
         answers::list(&mut rows);
+        saves::list(&mut rows);
         Coverage {
             rows,
             exchange: Exchange::default(),
+            reloaded: None,
         }
     }
 }
@@ -156,6 +162,11 @@ impl Coverage {
         lines::hit(&mut self.rows, before.as_ref(), &read, &outcome);
         if let (Line::Event(event), Outcome::Answer(answer)) = (&read, &outcome) {
             self.count(before.as_ref(), event, answer);
+            match event {
+                Event::Reload(_) => self.reloaded = self.exchange.table.clone(),
+                Event::Start { .. } => self.reloaded = None,
+                _ => {}
+            }
         }
     }
 
@@ -171,9 +182,10 @@ impl Coverage {
             received,
             call: named(before, event),
             after: self.exchange.table.as_ref(),
+            reloaded: self.reloaded.as_ref(),
         };
         let rows = &mut self.rows;
-        rows.hit(answer.row.id());
+        rows.hit(&saves::id(event, answer.row));
         starts::hit(rows, &seen);
         refusals::hit(rows, &seen);
         steps::hit(rows, &seen);
@@ -183,6 +195,7 @@ impl Coverage {
         hosts::hit(rows, &seen);
         timers::hit(rows, &seen);
         answers::hit(rows, &seen);
+        saves::hit(rows, &seen);
     }
 
     /// The table of rows, and a last line on those not reached.

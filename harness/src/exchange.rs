@@ -25,7 +25,7 @@ pub enum Outcome {
     Answer(Answer),
 }
 
-/// The table of the last accepted start.
+/// The table since the last accepted start or reload.
 #[derive(Clone, Debug, Default)]
 pub struct Exchange {
     pub table: Option<Table>,
@@ -43,7 +43,12 @@ impl Exchange {
 
     pub fn event(&mut self, event: &Event) -> Outcome {
         Outcome::Answer(match (event, &mut self.table) {
-            (Event::Start { ranges, pairs }, table) => start(table, ranges, pairs),
+            (Event::Start { ranges, pairs }, table) => {
+                renew(table, Table::start(ranges, pairs), Row::StartAccepted)
+            }
+            (Event::Reload(octets), table) => {
+                renew(table, Table::reload(octets), Row::ReloadAccepted)
+            }
             (_, None) => return Outcome::NoTable,
             (Event::Message(request, octets), Some(table)) => table.message(request, octets),
             (Event::Tick(request), Some(table)) => table.tick(request),
@@ -52,15 +57,15 @@ impl Exchange {
                 table.clear(request, *slot, *cause)
             }
             (Event::Offer(request, body), Some(table)) => table.offer(request, body),
+            (Event::Save(room), Some(table)) => table.save(*room),
         })
     }
 }
 
-/// A refused start leaves no table.
-fn start(table: &mut Option<Table>, ranges: &[u16], pairs: &[u16]) -> Answer {
-    let started = Table::start(ranges, pairs);
-    let row = *started.as_ref().err().unwrap_or(&Row::StartAccepted);
-    *table = started.ok();
+/// A refused start or reload leaves no table.
+fn renew(table: &mut Option<Table>, renewed: Result<Table, Row>, accepted: Row) -> Answer {
+    let row = *renewed.as_ref().err().unwrap_or(&accepted);
+    *table = renewed.ok();
     Answer::nothing(row)
 }
 

@@ -6,16 +6,16 @@ mod hosts;
 mod junk;
 mod messages;
 mod plan;
-mod random;
 mod requests;
 mod restarts;
+mod saves;
 mod starts;
 
 use crate::compose::hex;
 use crate::controller::{Call, Table};
 use crate::exchange::{Exchange, Outcome};
+use crate::random::Random;
 use plan::{Class, Plan};
-use random::Random;
 
 /// A generator of lines.
 #[derive(Clone, Debug)]
@@ -25,9 +25,16 @@ pub struct Generator {
     plan: Plan,
     /// The lines before the next plan.
     left: u64,
-    /// The start behind a comment that names its plan.
+    /// The line that comes next: the start behind a comment that names its
+    /// plan, or a reload.
     waiting: Option<String>,
+    /// The form last saved.
+    saved: Option<Vec<u8>>,
 }
+
+/// One line of so many saves or reloads, with a table and with none.
+const SAVES: usize = 60;
+const SAVES_EARLY: usize = 15;
 
 impl Generator {
     pub fn new(seed: u64) -> Generator {
@@ -39,6 +46,7 @@ impl Generator {
             plan,
             left: 5,
             waiting: None,
+            saved: None,
         }
     }
 
@@ -50,8 +58,8 @@ impl Generator {
     }
 
     fn draw(&mut self) -> Vec<u8> {
-        if let Some(start) = self.waiting.take() {
-            return start.into_bytes();
+        if let Some(line) = self.waiting.take() {
+            return line.into_bytes();
         }
         if self.left == 0 {
             return self.next_plan().into_bytes();
@@ -60,6 +68,15 @@ impl Generator {
         if self.random.below(400) == 0 {
             return self.random.pick(&["", "#", "# tick 1 0 1024"]).into();
         }
+        let early = self.table().is_none();
+        let saves = if early { SAVES_EARLY } else { SAVES };
+        if self.random.below(saves) == 0 {
+            return self.save_or_reload();
+        }
+        self.plan_line()
+    }
+
+    fn plan_line(&mut self) -> Vec<u8> {
         match self.plan.class(&mut self.random) {
             Class::Setup => self.message_line(Generator::setup),
             Class::OnCall => self.message_line(Generator::on_call),

@@ -114,4 +114,24 @@ rows! {
     T310 "TI-2" 0 "T310: RELEASE 102, diagnostic 310, N12, T308";
     T308First "TI-3" 0 "T308 first: RELEASE again and T308";
     T308Second "TI-4" 0 "T308 second: gone";
+    SaveAccepted "SV-0" 0 "save: the form";
+    SaveRoom "SV-1" 1 "save: a smaller room is refused and untouched";
+    ReloadAccepted "RL-0" 0 "reload accepted";
+    ReloadTag "RL-9-01" 9 "unknown tag";
+    ReloadCut "RL-9-02" 9 "a field that is cut";
+    ReloadMissing "RL-9-03" 9 "a field that is missing";
+    ReloadRepeated "RL-9-04" 9 "a field that is repeated";
+    ReloadMisplaced "RL-9-05" 9 "a field that is misplaced";
+    ReloadLength "RL-9-06" 9 "a wrong length";
+    ReloadReading "RL-9-07" 9 "a reading over the limit";
+    ReloadSlot "RL-9-08" 9 "a slot the table lacks";
+    ReloadReferenceZero "RL-9-09" 9 "reference 0";
+    ReloadReferenceTwice "RL-9-10" 9 "two calls on one flagged reference";
+    ReloadPairTwice "RL-9-11" 9 "two calls on one pair";
+    ReloadPair "RL-9-12" 9 "a pair not permitted";
+    ReloadState "RL-9-13" 9 "a state that is none of a live call";
+    ReloadSide "RL-9-14" 9 "a side that the state does not have";
+    ReloadTimer "RL-9-15" 9 "neither the first T308 nor the second";
+    ReloadCause "RL-9-16" 9 "a cause that no RELEASE of ours has";
+    ReloadDeadline "RL-9-17" 9 "a deadline further past the last reading than its timer is long";
 }

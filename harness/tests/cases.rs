@@ -54,10 +54,11 @@ fn a_wrong_answer_is_found() {
 }
 
 #[test]
-fn every_case_begins_with_a_start() {
+fn every_case_begins_with_a_start_or_a_reload() {
     for case in suite().cases {
         let (first, _) = &case.exchanged[0];
-        assert!(first.starts_with("start "), "{}", case.name);
+        let fresh = first.starts_with("start ") || first.starts_with("reload ");
+        assert!(fresh, "{}", case.name);
     }
 }
 
@@ -66,10 +67,12 @@ fn notation() {
     let mut suite = Suite::default();
     let text = "case A\npurpose words\npaper \"words\"\n\
         ! message 1 0 1024 SETUP 1/2 length=3 octet7=01 [5C 08(80 90) 42/17=9(AA*2) \"0102\"]\n\
-        ? 0 - 0 - 0\n! offer 1 0 1024 []\n? 10 - 0 - 0\n";
+        ? 0 - 0 - 0\n! offer 1 0 1024 []\n? 10 - 0 - 0\n\
+        ! reload [02() 03=7(00*2) \"04 00\"]\n? 9 - 0 - 0\n";
     suite.read(text).expect("a case file");
     let script = "# A\nmessage 1 0 1024 0903800002050100035c8000020000\
-        08800002809042170009aaaa0102\noffer 1 0 1024 -\n";
+        08800002809042170009aaaa0102\noffer 1 0 1024 -\n\
+        reload 02000003000700000400\n";
     assert_eq!(suite.script(), script);
 }
 

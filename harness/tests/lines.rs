@@ -88,6 +88,18 @@ fn bad_lines() {
         "message 1 0 1024 0g",
         "message 1 0 1024 --",
         "offer 1 0 1024 090",
+        "save",
+        "save ",
+        "save -",
+        "save 4096 0",
+        "save 18446744073709551616",
+        "SAVE 4096",
+        "reload",
+        "reload ",
+        "reload 0",
+        "reload 0g",
+        "reload --",
+        "reload 01 00",
     ] {
         assert_eq!(run(line.as_bytes()), "bad line", "{line}");
         assert_eq!(behind(line), "bad line", "{line}");
@@ -118,6 +130,32 @@ fn octets() {
     assert_eq!(behind("offer 1 0 1024 -"), "10 - 0 - 0");
     let mixed = behind("message 1 0 1024 0903aBcDeF75800000");
     assert_eq!(mixed, behind("message 1 0 1024 0903ABCDEF75800000"));
+}
+
+/// The form of a table behind the start.
+const FORM: &str = "0100060000002000210200000300080000000000000000";
+
+#[test]
+fn saves() {
+    let saved = format!("0 {FORM} 0 - 0");
+    assert_eq!(behind("save 23"), saved);
+    assert_eq!(behind("save 018446744073709551615"), saved);
+    assert_eq!(behind("save 22"), "1 - 0 - 0");
+    assert_eq!(behind("save 22\nsave 4096"), format!("1 - 0 - 0|{saved}"));
+    assert_eq!(run(b"save 4096\nsave 0"), "no table|no table");
+}
+
+#[test]
+fn reloads() {
+    let accepted = "0 - 0 - 0|0 - 0 - 0";
+    let then = |octets: &str| run(format!("reload {octets}\ntick 1 0 1024").as_bytes());
+    assert_eq!(then(FORM), accepted);
+    let refused = "9 - 0 - 0|no table";
+    assert_eq!(then("-"), refused);
+    assert_eq!(behind("reload -\ntick 1 0 1024"), refused);
+    assert_eq!(then(&"00".repeat(4_096)), refused);
+    assert_eq!(then(&"00".repeat(4_097)), "bad line|no table");
+    assert_eq!(behind("reload 0\ntick 1 0 1024"), "bad line|0 - 0 - 0");
 }
 
 #[test]

@@ -6,7 +6,8 @@
 //   Phase::state_number, due      the paper's number of a state, and its timer's deadline
 //   Call::moved                   a call in another state
 //   Slot::..                      what one slot holds
-//   Slots::find, lowest_empty     the first slot with a call, and the first empty one
+//   Slots::find, find_pair        the first slot with a call, and the first whose call holds a pair
+//   Slots::lowest_empty           the first empty slot
 //   Slots::slot_at, with_slot     one slot read, and one slot changed
 //   Slots::held                   the pairs that live calls hold
 //   Slots::next_due, some_due     the timer that a tick fires, and if one is due
@@ -359,6 +360,21 @@ impl Slots {
         while i < 32 {
             let s = self.all[i];
             if s.is_call(network, reference) {
+                return Found::At(i);
+            }
+            i += 1;
+        }
+        Found::Nothing
+    }
+
+    // The slot of the call that holds a pair.
+    pub fn find_pair(self, vpci: u16, vci: u16) -> Found
+        ensures { λ r. ⌜ r ≡ place (holdsPair vpci vci) (self .all) ⌝ }
+    {
+        let mut i: usize = 0;
+        while i < 32 {
+            let s = self.all[i];
+            if s.holds_pair(vpci, vci) {
                 return Found::At(i);
             }
             i += 1;

@@ -5,13 +5,14 @@
 //   Range::unused             the range without a VCI
 //   Held::holds               if a live call holds a pair
 //   Pool::is_permanent        if a pair is permanent
+//   Pool::permits             if a pair is in a range and not permanent
 //   Pool::is_taken            if a pair is not free
 //   Pool::lowest_free         the lowest free permitted pair by VPCI and then VCI
 //   Pool::knows_vpci          if a VPCI stands in a range or in a permanent pair
 //   Pool::empty               the pool without ranges and without permanent pairs
 // Nothing here has a `requires`. Assumes nothing.
 ghost use mathlib.Core.Path.{_≡_};
-ghost use Rattle.channels.specs.Channels.{isEntry, among, taken, lowest, spansVpci, namesVpci, spannedVpci, namedVpci, knownVpci, noRange, emptyPool};
+ghost use Rattle.channels.specs.Channels.{isEntry, among, inRange, inRanges, permitted, taken, lowest, spansVpci, namesVpci, spannedVpci, namedVpci, knownVpci, noRange, emptyPool};
 
 // A VPCI and a VCI, or none.
 pub enum Channel {
@@ -80,6 +81,18 @@ impl Range {
         }
     }
 
+    pub fn has(self, vpci: u16, vci: u16) -> bool
+        ensures { λ r. ⌜ r ≡ inRange vpci vci self ⌝ }
+    {
+        if self.vpci != vpci {
+            return false;
+        }
+        if vci < self.first {
+            return false;
+        }
+        vci <= self.last
+    }
+
     pub fn spans_vpci(self, vpci: u16) -> bool
         ensures { λ r. ⌜ r ≡ spansVpci vpci self ⌝ }
     {
@@ -133,6 +146,30 @@ impl Pool {
                 return true;
             }
             i += 1;
+        }
+        false
+    }
+
+    // If some range has the pair.
+    pub fn in_ranges(self, vpci: u16, vci: u16) -> bool
+        ensures { λ r. ⌜ r ≡ inRanges vpci vci (self .ranges) ⌝ }
+    {
+        let mut i: usize = 0;
+        while i < 4 {
+            let range = self.ranges[i];
+            if range.has(vpci, vci) {
+                return true;
+            }
+            i += 1;
+        }
+        false
+    }
+
+    pub fn permits(self, vpci: u16, vci: u16) -> bool
+        ensures { λ r. ⌜ r ≡ permitted self vpci vci ⌝ }
+    {
+        if self.in_ranges(vpci, vci) {
+            return !self.is_permanent(vpci, vci);
         }
         false
     }

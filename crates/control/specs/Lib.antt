@@ -1,4 +1,4 @@
 pub mod Refusals
 pub mod Outcome
 pub mod Events
-pub mod Reached
+pub mod Happens

@@ -4,6 +4,7 @@
 //   message              octets from the user
 //   tick                 the clock
 //   connect, clear       the host answers or ends a call
+//   is_host_cause        whether the host may use a cause
 //   offer                the host offers a call to the user
 // No event has a `requires`: what is wrong with its input is refused by its number. A reply fills the front of the lent
 // room; octets behind it are unchanged. Assumes nothing.
@@ -256,7 +257,7 @@ fn in_n12(phase: Phase) -> u8
 }
 
 // Whether the host may use a cause.
-fn is_host_cause(cause: u64) -> bool
+pub fn is_host_cause(cause: u64) -> bool
     ensures { λ r. ⌜ r ≡ member cause hostCauses ⌝ }
 {
     let mut i: usize = 0;

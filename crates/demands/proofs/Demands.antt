@@ -6,7 +6,7 @@ use mathlib.Core.Path.{_≡_, _∙_}
 use mathlib.Core.Logic.{_≢_}
 use borrow.Author.Tests.{ne-eqb, eq-eqb, lt-ltb, le-ltb}
 use Rattle.effects.specs.declared.Table.{Table}
-use Rattle.control.specs.Reached.{Event}
+use Rattle.control.specs.Happens.{Event}
 use Rattle.independence.proofs.Independence.{calls-do-not-lean}
 use Rattle.independence.proofs.Leaning.{setups-lean, setup-release-lean, one-reference-leans}
 use Rattle.safety.specs.SmallTable.{SmallTable}

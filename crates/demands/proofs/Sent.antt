@@ -35,8 +35,9 @@ use Rattle.effects.specs.Effects.{freePair, tickEffect}
 use Rattle.control.specs.Refusals.{orElse, holdAt, bodyRefusal, slotRefusal, pairRefusal}
 use Rattle.control.specs.Outcome.{effectReply}
 use Rattle.control.specs.Events.{heardBy, connected, cleared, offeredOn, offered}
-use Rattle.control.specs.Reached.{Event, message, tick, connect, clear, offer, happens, Reached}
-use Rattle.safety.specs.Sound.{Sound, InOctets, AllInOctets, ReferencesFit}
+use Rattle.control.specs.Happens.{Event, message, tick, connect, clear, offer, happens}
+use Rattle.reload.specs.Reached.{Reached}
+use Rattle.safety.specs.Sound.{Sound, InOctets, CarriedOctets, ReferencesFit}
 use Rattle.safety.proofs.Refusals.{commonOf, ownOf, refusalOf, or-else-both}
 use Rattle.safety.proofs.FixedAnswers.{outcomeOf, accepted-reply, refused-reply, number}
 use Rattle.safety.proofs.Happenings.{accepted-host}
@@ -141,7 +142,7 @@ event-back t e s f o =
     (λ y. rw (meant-unless t e, accepted-reply t e y, y) (accepted-back t e s f o (eqb-true (refusalOf t e) 0 y)))
     (λ n. rw (meant-unless t e, refused-reply t e n, n) (record { same = refl; in-octets = no-octets }))
 
-module _ (t : Table) (r : Reached t) (carried : AllInOctets (r .events)) (e : Event) (o : InOctets e) where
+module _ (t : Table) (r : Reached t) (carried : CarriedOctets t r) (e : Event) (o : InOctets e) where
   pub every-reply-reads-back : readBack (happens t e .reply) ≡ meantBy t e
   every-reply-reads-back = (event-back t e (reached-sound t r) (reached-fits t r carried) o) .same
 

@@ -15,12 +15,13 @@ use Rattle.channels.specs.Channels.{permitted}
 use Rattle.calls.specs.declared.Call.{Call}
 use Rattle.readback.specs.ReadBack.{Octets}
 use Rattle.effects.specs.declared.Table.{Table}
-use Rattle.control.specs.Reached.{Event, happens, Reached}
+use Rattle.control.specs.Happens.{Event, happens}
+use Rattle.reload.specs.Reached.{Reached}
 use Rattle.independence.specs.Independence.{CallsDoNotLean}
 use Rattle.independence.specs.Leaning.{setup, release, enquiry, onePair, held, Leans}
 use Rattle.safety.specs.Tables.{HasCall}
 use Rattle.safety.specs.FixedAnswers.{labelOf, readingOf, roomOf, FixedAnswer, FixedStart}
-use Rattle.safety.specs.Sound.{Sound, InOctets, AllInOctets}
+use Rattle.safety.specs.Sound.{Sound, InOctets, CarriedOctets}
 use Rattle.safety.specs.Flags.{FlagsExact}
 use Rattle.safety.specs.NoPair.{NoPairExactly, SentExactly}
 use Rattle.safety.specs.Slips.{HeldUntilGone, ReleaseFreesNone, NotHandedOut, ReleasedHolds, OneSide, SetupIsNew, BothOnes, DuplicateIgnored, NoStatusForStatus, PermanentStays}
@@ -49,9 +50,9 @@ pub record DemandTwo : Type 0 where
   pub sound : (t : Table) → Reached t → Sound t
   -- each notice with its flags: "naming exactly the slots meant"
   pub flags-exact : (t : Table) → Reached t → (e : Event) → FlagsExact t e
-  -- "What we write reads back as the same message.": where the messages and the offers' bodies were octets
-  pub reads-back : (t : Table) (r : Reached t) → AllInOctets (r .events) → (e : Event) → InOctets e → readBack (happens t e .reply) ≡ meantBy t e
-  pub writes-octets : (t : Table) (r : Reached t) → AllInOctets (r .events) → (e : Event) → InOctets e → Octets (happens t e .reply)
+  -- "What we write reads back as the same message.": where the messages, the offers' bodies and a saved form were octets
+  pub reads-back : (t : Table) (r : Reached t) → CarriedOctets t r → (e : Event) → InOctets e → readBack (happens t e .reply) ≡ meantBy t e
+  pub writes-octets : (t : Table) (r : Reached t) → CarriedOctets t r → (e : Event) → InOctets e → Octets (happens t e .reply)
   pub writes-few : (t : Table) (e : Event) → length (happens t e .reply) ≤ 1024
   -- "No two live calls hold one VPCI/VCI pair"
   pub never-shared : (t : Table) → Reached t → (i j : ℕ) (c d : Call) → HasCall t i c → HasCall t j d → c .vpci ≡ d .vpci → c .vci ≡ d .vci → i ≡ j

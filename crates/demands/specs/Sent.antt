@@ -22,7 +22,7 @@ use Rattle.effects.specs.declared.Table.{Table}
 use Rattle.effects.specs.Effects.{freePair, tickEffect}
 use Rattle.control.specs.Refusals.{holdAt}
 use Rattle.control.specs.Events.{heardBy, connected, cleared}
-use Rattle.control.specs.Reached.{Event, message, tick, connect, clear, offer, happens}
+use Rattle.control.specs.Happens.{Event, message, tick, connect, clear, offer, happens}
 
 pub data Sent : Type 0 where
   nothing : Sent

@@ -3,6 +3,7 @@ use calls::Flags;
 use control::Answer;
 use control::Started;
 use effects::Table;
+use saved::Saved;
 use script::Clock;
 use script::Line;
 use script::List;
@@ -16,7 +17,7 @@ ghost use Rattle.exchange.specs.Desk.{Tidy};
 // The pattern that the reply room is filled with.
 const PATTERN: u8 = 0xA5;
 
-// The table, if a start was accepted (`live`); if answers are explained; if the input goes on; how many octets of the output and of the line buffer are filled.
+// The table, if a start or a reload was accepted (`live`); if answers are explained; if the input goes on; how many octets of the output and of the line buffer are filled.
 struct Desk {
     table: Table,
     live: bool,
@@ -42,7 +43,7 @@ impl Desk {
         }
     }
 
-    // The table after a start.
+    // The table after a start or a reload.
     fn started(mut self, table: Table, live: bool) -> Desk
         requires { ⌜ Tidy self ⌝ }
         ensures { λ r. ⌜ Tidy r ⌝ }
@@ -164,6 +165,18 @@ fn say_touched(desk: Desk, out: &mut [u8]) -> Desk
     )
 }
 
+fn say_no_table(desk: Desk, out: &mut [u8]) -> Desk
+    requires { ⌜ (length (now out) ≡ 65536) × Tidy desk ⌝ }
+    ensures { λ r. ⌜ Tidy r ⌝ }
+{
+    say(
+        desk,
+        b"no table\n",
+        b"# no start and no reload was accepted\n",
+        out,
+    )
+}
+
 // If each octet of a room behind the reply still has the pattern.
 fn untouched(room: &[u8], from: usize) -> bool {
     let mut other: u8 = 0;
@@ -279,11 +292,76 @@ fn handle(desk: Desk, clock: Clock, request: Request, octets: &[u8], out: &mut [
     ensures { λ r. ⌜ Tidy r ⌝ }
 {
     if !desk.live {
-        return say(desk, b"no table\n", b"# no start was accepted\n", out);
+        return say_no_table(desk, out);
     }
     let mut room = [PATTERN; 4096];
     let n = lent(clock.room);
     respond(desk, clock, request, octets, &mut room[0..n], out)
+}
+
+// Explains what became of a save of so many octets.
+fn explain_saved(out: &mut [u8], at: usize, refusal: u8, n: usize) -> usize
+    requires { ⌜ (length (now out) ≡ 65536) × (at ≤ 50000) ⌝ }
+    ensures { λ r. ⌜ r ≤ 65536 ⌝ }
+{
+    if refusal != 0 {
+        return octets::put(out, at, b"# room smaller than the saved form\n");
+    }
+    let counted = octets::put(out, at, b"# table saved: ");
+    let named = ascii::put_decimal(out, counted, n as u64);
+    octets::put(out, named, b" octets\n")
+}
+
+// Writes the answer to a save, and explains it if that is asked for.
+fn write_saved(desk: Desk, refusal: u8, form: &[u8], out: &mut [u8]) -> usize
+    requires { ⌜ (length (now out) ≡ 65536) × (length (now form) ≤ 4096) × Tidy desk ⌝ }
+    ensures { λ r. ⌜ r ≤ 65536 ⌝ }
+{
+    let at = cleared(out, desk.used);
+    let next = answers::put_answer(out, at, refusal, form, 0, Flags::none(), false);
+    if !desk.explains {
+        return next;
+    }
+    explain_saved(out, next, refusal, form.len())
+}
+
+// Writes the answer to a save; what lies behind the form must be untouched.
+fn tell_saved(desk: Desk, saved: Saved, room: &[u8], out: &mut [u8]) -> Desk
+    requires { ⌜ (length (now out) ≡ 65536) × (length (now room) ≤ 4096) × Tidy desk ⌝ }
+    ensures { λ r. ⌜ Tidy r ⌝ }
+{
+    let length = saved.length;
+    if room.len() < length {
+        return say_touched(desk, out);
+    }
+    if !untouched(room, length) {
+        return say_touched(desk, out);
+    }
+    let used = write_saved(desk, saved.refusal, &room[0..length], out);
+    desk.filled(used)
+}
+
+// A save with a room.
+fn store(desk: Desk, room: &mut [u8], out: &mut [u8]) -> Desk
+    requires { ⌜ (length (now out) ≡ 65536) × (length (now room) ≤ 4096) × Tidy desk ⌝ }
+    ensures { λ r. ⌜ Tidy r ⌝ }
+{
+    let table = desk.table;
+    let saved = saved::save(table, room);
+    tell_saved(desk, saved, room, out)
+}
+
+// A save, in a room with the pattern in all of it.
+fn keep(desk: Desk, size: u64, out: &mut [u8]) -> Desk
+    requires { ⌜ (length (now out) ≡ 65536) × Tidy desk ⌝ }
+    ensures { λ r. ⌜ Tidy r ⌝ }
+{
+    if !desk.live {
+        return say_no_table(desk, out);
+    }
+    let mut room = [PATTERN; 4096];
+    let n = lent(size);
+    store(desk, &mut room[0..n], out)
 }
 
 // A start from two lists.
@@ -297,26 +375,16 @@ fn start(ranges: List, pairs: List) -> Started
     control::start(&first[0..r], &second[0..p])
 }
 
-// What a start answers: a refused one leaves no table.
-fn open(desk: Desk, started: Started, out: &mut [u8]) -> Desk
-    requires { ⌜ (length (now out) ≡ 65536) × Tidy desk ⌝ }
+// What a start or a reload answers, with a note for each: a refused one leaves no table.
+fn open(desk: Desk, started: Started, accepted: &[u8], refused: &[u8], out: &mut [u8]) -> Desk
+    requires { ⌜ (length (now out) ≡ 65536) × (length (now accepted) ≤ 64) × (length (now refused) ≤ 64) × Tidy desk ⌝ }
     ensures { λ r. ⌜ Tidy r ⌝ }
 {
     let table = started.table;
     if started.refusal == 0 {
-        return say(
-            desk.started(table, true),
-            b"0 - 0 - 0\n",
-            b"# start accepted: every slot is empty\n",
-            out,
-        );
+        return say(desk.started(table, true), b"0 - 0 - 0\n", accepted, out);
     }
-    say(
-        desk.started(table, false),
-        b"9 - 0 - 0\n",
-        b"# start refused: the lists break a rule\n",
-        out,
-    )
+    say(desk.started(table, false), b"9 - 0 - 0\n", refused, out)
 }
 
 // A line that begins with `start`.
@@ -330,7 +398,27 @@ fn begin(desk: Desk, line: &[u8], out: &mut [u8]) -> Desk
     }
     let ranges = lists.ranges;
     let pairs = lists.pairs;
-    open(desk, start(ranges, pairs), out)
+    open(
+        desk,
+        start(ranges, pairs),
+        b"# start accepted: every slot is empty\n",
+        b"# start refused: the lists break a rule\n",
+        out,
+    )
+}
+
+// A saved form in place of a start.
+fn restore(desk: Desk, form: &[u8], out: &mut [u8]) -> Desk
+    requires { ⌜ (length (now out) ≡ 65536) × Tidy desk ⌝ }
+    ensures { λ r. ⌜ Tidy r ⌝ }
+{
+    open(
+        desk,
+        reload::reload(form),
+        b"# table reloaded\n",
+        b"# reload refused: the octets are no saved form\n",
+        out,
+    )
 }
 
 // If a line gets no answer: it is empty or a comment.
@@ -353,6 +441,8 @@ fn take(desk: Desk, line: &[u8], octets: &mut [u8], out: &mut [u8]) -> Desk
         Line::Bad => say_bad_line(desk, out),
         Line::Start => begin(desk, line, out),
         Line::Event(clock, request) => handle(desk, clock, request, octets, out),
+        Line::Save(size) => keep(desk, size, out),
+        Line::Reload(n) => restore(desk, &octets[0..n], out),
     }
 }
 
@@ -494,7 +584,7 @@ fn run(explains: bool, input: &mut [u8], line: &mut [u8], octets: &mut [u8], out
 fn asks_to_explain() -> bool {
     let mut word = io::buffer();
     let n = os::arg(1, &mut word);
-    script::same(&word[..n], b"explain")
+    octets::same(&word[..n], b"explain")
 }
 
 fn main() {

@@ -12,7 +12,7 @@ use mathlib.Core.List.{[], _∷_}
 use native.Mathlib.Omega.{arith}
 use lib.ListN.{length, getD}
 use Rattle.reorder.specs.Reorder.{Order}
-use Rattle.control.specs.Reached.{Reached}
+use Rattle.reload.specs.Reached.{start, Reached}
 use Rattle.independence.specs.Independence.{Heard, Given, Qualifies, KeepsOrder, within-reference, setup-before, before-setup}
 use Rattle.independence.specs.Leaning.{setup, release, enquiry, ranges, onePair, firstCall, held, Leans}
 
@@ -22,10 +22,10 @@ two-qualify x y d p q (suc zero) h = q
 two-qualify x y d p q (suc (suc i)) h = absurd (omega arith)
 
 one-pair-reached : Reached onePair
-one-pair-reached = record { ranges = ranges; pairs = []; accepted = refl; events = []; gives = refl }
+one-pair-reached = record { beginning = start ranges []; accepted = refl; events = []; gives = refl }
 
 held-reached : Reached held
-held-reached = record { ranges = ranges; pairs = []; accepted = refl; events = firstCall; gives = refl }
+held-reached = record { beginning = start ranges []; accepted = refl; events = firstCall; gives = refl }
 
 setup-qualifies : (r : ℕ) → ¬ (r ≡ 0) → Qualifies (setup r)
 setup-qualifies r other = record { passes = refl; local = λ e. other (omega arith) }

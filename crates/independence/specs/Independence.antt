@@ -22,7 +22,7 @@ use Rattle.effects.specs.declared.Table.{Table}
 use Rattle.control.specs.Refusals.{largestReading}
 use Rattle.control.specs.Outcome.{Outcome}
 use Rattle.control.specs.Events.{messageOf}
-use Rattle.control.specs.Reached.{Reached}
+use Rattle.reload.specs.Reached.{Reached}
 
 -- "In demand 3 each message keeps its own label and room." `room` is the length of the reply room
 pub record Heard : Type 0 where

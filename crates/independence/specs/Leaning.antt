@@ -8,7 +8,8 @@ use mathlib.Core.List.{List, [], _∷_}
 use lib.ListN.{length, getD}
 use Rattle.effects.specs.declared.Table.{Table}
 use Rattle.control.specs.Events.{startOf}
-use Rattle.control.specs.Reached.{Reached, Event, message, after}
+use Rattle.control.specs.Happens.{Event, message, after}
+use Rattle.reload.specs.Reached.{Reached}
 use Rattle.independence.specs.Independence.{Heard, Given, AcceptedIn, Qualifies, SameResults}
 
 abbrev pub plain : List ℕ → Heard

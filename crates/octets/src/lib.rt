@@ -1,12 +1,13 @@
 // Numbers in octets, and writing octets at a place of a lent room.
 //   wide      an octet as a usize
 //   number    a 16-bit number from its two octets, high octet first
+//   same      if two runs of octets are the same
 //   put       octets at a place of a room
 // `put` asks for room; nothing else has a `requires`. Assumes nothing.
 ghost use mathlib.Core.Path.{_≡_};
 ghost use Prim.Native.Nat.{_+_, _≤_};
 ghost use lib.ListN.{length};
-ghost use Rattle.octets.specs.Octets.{number, Wrote};
+ghost use Rattle.octets.specs.Octets.{number, equal, Wrote};
 
 // An octet as a usize.
 pub fn wide(octet: u8) -> usize
@@ -20,6 +21,23 @@ pub fn number(high: u8, low: u8) -> u16
     ensures { λ r. ⌜ r ≡ number high low ⌝ }
 {
     (high as u16) * 256 + (low as u16)
+}
+
+// If two runs have the same octets.
+pub fn same(a: &[u8], b: &[u8]) -> bool
+    ensures { λ r. ⌜ r ≡ equal (now (a .entry)) (now (b .entry)) ⌝ }
+{
+    if a.len() != b.len() {
+        return false;
+    }
+    let mut i: usize = 0;
+    while i < a.len() {
+        if a[i] != b[i] {
+            return false;
+        }
+        i += 1;
+    }
+    true
 }
 
 // Writes all of `octets` at place `at` of the room, and answers the place behind them.

@@ -28,7 +28,7 @@ use Rattle.judging.specs.declared.Fate.the-variants as fate
 use Rattle.effects.specs.declared.Table.{Table}
 use Rattle.effects.specs.Effect.{fated}
 use Rattle.effects.specs.Effects.{freePair}
-use Rattle.control.specs.Reached.{Event, message, tick, connect, clear, offer}
+use Rattle.control.specs.Happens.{Event, message, tick, connect, clear, offer}
 use Rattle.safety.specs.Tables.{HasCall}
 use Rattle.safety.specs.FixedAnswers.{readingOf}
 use Rattle.safety.specs.Sound.{PhaseSound}

@@ -26,7 +26,7 @@ use Rattle.effects.specs.Effects.{freePair, tickEffect}
 use Rattle.control.specs.Refusals.{orElse, commonRefusal, holdAt, bodyRefusal, slotRefusal, pairRefusal}
 use Rattle.control.specs.Outcome.{Outcome, sending, acceptedAs, effectReply, unlessRefused}
 use Rattle.control.specs.Events.{heardBy, connected, cleared, offeredOn, offered}
-use Rattle.control.specs.Reached.{Event, message, tick, connect, clear, offer, happens}
+use Rattle.control.specs.Happens.{Event, message, tick, connect, clear, offer, happens}
 use Rattle.safety.specs.Tables.{HasSlots}
 use Rattle.safety.specs.FixedAnswers.{readingOf, Unchanged, Stored, FixedAnswer}
 use Rattle.safety.proofs.Refusals.{commonOf, ownOf, refusalOf, or-else-zero, or-else-both, applied, reaches}

@@ -65,7 +65,7 @@ use Rattle.effects.specs.Effects.{freePair, userCall, onPair, admitted, setupEf
 use Rattle.control.specs.Refusals.{holdAt}
 use Rattle.control.specs.Outcome.{Outcome, stored, refusedWith}
 use Rattle.control.specs.Events.{heardBy, connected, cleared, networkCall, offeredOn, offered}
-use Rattle.control.specs.Reached.{Event, message, tick, connect, clear, offer}
+use Rattle.control.specs.Happens.{Event, message, tick, connect, clear, offer}
 use Rattle.safety.specs.Tables.{HasSlots, slotAt, HasCall}
 use Rattle.safety.specs.Flags.{flagOf, CallAsked, CallAnswered, CallGone, OneFlag, NamesExactly, FlagsExact}
 use Rattle.safety.proofs.Tables.{not-live, live-within, empty-at}

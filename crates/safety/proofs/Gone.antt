@@ -64,7 +64,7 @@ use Rattle.effects.specs.Effects.{freePair, onPair, admitted, setupEffect, onNo
 use Rattle.control.specs.Refusals.{holdAt}
 use Rattle.control.specs.Outcome.{Outcome, sending, refusedWith}
 use Rattle.control.specs.Events.{heardBy, connected, cleared, offeredOn, offered}
-use Rattle.control.specs.Reached.{Event, message, tick, connect, clear, offer, happens}
+use Rattle.control.specs.Happens.{Event, message, tick, connect, clear, offer, happens}
 use Rattle.safety.specs.Tables.{HasSlots, slotAt, HasCall}
 use Rattle.safety.specs.Slips.{StillThere, Went, HeldUntilGone}
 use Rattle.safety.proofs.Tables.{live-within}

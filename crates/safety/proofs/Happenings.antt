@@ -45,7 +45,7 @@ use Rattle.effects.specs.Restart.{pairRestart, restartEffect}
 use Rattle.effects.specs.Effects.{freePair, userCall, onPair, admitted, setupEffect, onNoCall, onHold, addressed, globalEffect, fireHold, fired}
 use Rattle.control.specs.Refusals.{largestReading, holdAt, unclearable, causeRefusal, hostCauses}
 use Rattle.control.specs.Events.{heardBy, connected, cleared, networkCall, offeredOn, offered}
-use Rattle.control.specs.Reached.{Event, message, tick, connect, clear, offer}
+use Rattle.control.specs.Happens.{Event, message, tick, connect, clear, offer}
 use Rattle.safety.specs.Tables.{slotAt}
 use Rattle.safety.specs.FixedAnswers.{readingOf}
 use Rattle.safety.specs.Sound.{in-N3, in-N6, in-N10}

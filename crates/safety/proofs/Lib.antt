@@ -8,6 +8,7 @@ pub mod FixedStart
 pub mod Changes
 pub mod Fates
 pub mod Happenings
+pub mod Reloaded
 pub mod Sound
 pub mod References
 pub mod Cause45

@@ -36,7 +36,8 @@ use Rattle.effects.specs.Effects.{freePair, onPair, admitted, setupEffect, onNo
 use Rattle.control.specs.Refusals.{holdAt}
 use Rattle.control.specs.Outcome.{effectReply}
 use Rattle.control.specs.Events.{heardBy, connected, cleared, offeredOn, offered}
-use Rattle.control.specs.Reached.{Event, message, tick, connect, clear, offer, happens, Reached}
+use Rattle.control.specs.Happens.{Event, message, tick, connect, clear, offer, happens}
+use Rattle.reload.specs.Reached.{Reached}
 use Rattle.safety.specs.Tables.{slotAt, NoneFree}
 use Rattle.safety.specs.Sound.{Sound}
 use Rattle.safety.specs.NoPair.{PassedAllChecks, WantsPair, wants, Says45, in-release, in-release-complete, in-status, noPair, noPairOctets, NoPairExactly, SentExactly}

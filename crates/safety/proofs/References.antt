@@ -1,26 +1,36 @@
--- Each live call's reference has 23 bits where the messages were octets.
+-- Each live call's reference has 23 bits where the messages, and the form that was reloaded, were octets.
 --   octets-fit, unused-fits, source-fits       a reference of three octets, one that is not in use, a new call's
+--   slots-fit                                  those of a form
 --   reached-fits
 -- Assumes nothing.
-use Prim.Native.Nat.{ℕ, _+_, _*_, _%_, _<_}
+use Prim.Native.Nat.{ℕ, zero, suc, _+_, _*_, _%_, _<_}
+use mathlib.Core.Path.{_≡_}
 use mathlib.Core.List.{List, [], _∷_}
 use native.Mathlib.Omega.{arith}
 use lib.Dec.{eqb}
 use lib.ListN.{length, getD}
+use lib.Seq.{getD-drop}
 use borrow.Author.Tests.{eqb-true}
 use Rattle.channels.proofs.Cases.{by-test}
 use Rattle.calls.specs.declared.Call.{Call}
-use Rattle.calls.specs.Calls.{unusedReference}
+use Rattle.calls.specs.declared.Hold.the-variants.{Live}
+use Rattle.calls.specs.declared.Slot.{Slot}
+use Rattle.calls.specs.Calls.{noSlot, unusedReference}
 use Rattle.calls.proofs.Unused.{unused-found}
 use Rattle.effects.specs.declared.Table.{Table}
-use Rattle.control.specs.Events.{startOf}
-use Rattle.control.specs.Reached.{Event, message, tick, connect, clear, offer, happens, after, Reached}
+use Rattle.effects.specs.Effect.{slotCount}
+use Rattle.control.specs.Happens.{Event, message, tick, connect, clear, offer, happens, after}
+use Rattle.reload.specs.Reading.{twoAt, rest, callIn, begins, slotIn, behindSlot, slotsIn}
+use Rattle.reload.specs.Reload.{reloadIn}
+use Rattle.reload.specs.Reached.{Beginning, start, reload, begun, Reached, BegunInOctets}
 use Rattle.safety.specs.Tables.{HasSlots}
-use Rattle.safety.specs.Sound.{Sound, InOctets, AllInOctets, ReferencesFit}
+use Rattle.safety.specs.Sound.{Sound, InOctets, AllInOctets, CarriedOctets, ReferencesFit}
 use Rattle.safety.proofs.Refusals.{refusalOf}
 use Rattle.safety.proofs.Changes.{Source, Comes, old, new}
 use Rattle.safety.proofs.Happenings.{outcome-change}
-use Rattle.safety.proofs.Sound.{left-accepted, left-refused, event-keeps-sound, start-sound, no-call}
+use Rattle.safety.proofs.Tables.{not-live}
+use Rattle.safety.proofs.Reloaded.{reload-in}
+use Rattle.safety.proofs.Sound.{left-accepted, left-refused, event-keeps-sound, begun-sound, no-call}
 
 pub octets-fit : (a b c : ℕ) → b < 256 → c < 256 → (a % 128) * 65536 + b * 256 + c < 8388608
 octets-fit a b c h k = omega arith
@@ -53,7 +63,50 @@ after-fits t [] s h f = f
 after-fits t (e ∷ es) s h f =
     after-fits (happens t e .answer .table) es (event-keeps-sound t e s) (h .1) (event-keeps-fits t e (s .has-slots) (h .0) f)
 
-pub reached-fits : (t : Table) (r : Reached t) → AllInOctets (r .events) → ReferencesFit t
+-- A form of octets has references of 23 bits.
+
+abbrev SlotFits : Slot → Type 0
+SlotFits s = (c : Call) → s .hold ≡ Live c → c .reference < 8388608
+
+abbrev AllFit : List Slot → Type 0
+AllFit [] = Unit {0}
+AllFit (s ∷ ss) = SlotFits s × AllFit ss
+
+fit-at : (ss : List Slot) (i : ℕ) → AllFit ss → SlotFits (getD ss i noSlot)
+fit-at [] i f = λ c e. not-live c e
+fit-at (s ∷ ss) zero f = f .0
+fit-at (s ∷ ss) (suc i) f = fit-at ss i (f .1)
+
+same-reference : (c d : Call) → Live c ≡ Live d → c .reference ≡ d .reference
+same-reference c d e = cc
+
+rest-octets : (f : List ℕ) → ((k : ℕ) → getD f k 0 < 256) → (k : ℕ) → getD (rest f) k 0 < 256
+rest-octets f h k = rw (getD-drop (3 + twoAt f 1) f k 0) (h (3 + twoAt f 1 + k))
+
+slot-fits : (slot : ℕ) (f : List ℕ) → ((k : ℕ) → getD f k 0 < 256) → SlotFits (slotIn slot f)
+slot-fits slot f h =
+    by-test (begins slot f)
+    (λ y. rw y (λ c e. rw (same-reference (callIn f) c e) at (octets-fit (getD f 4 0) (getD f 5 0) (getD f 6 0) (h 5) (h 6))))
+    (λ z. rw z (λ c e. not-live c e))
+
+slots-fit : (slot n : ℕ) (f : List ℕ) → ((k : ℕ) → getD f k 0 < 256) → AllFit (slotsIn slot f n)
+unfolding slotsIn
+slots-fit slot zero f h = tt
+slots-fit slot (suc n) f h =
+    (slot-fits slot f h, slots-fit (slot + 1) n (behindSlot slot f) (by-test (begins slot f) (λ y. rw y (rest-octets f h)) (λ z. rw z h)))
+
+pub form-fits : (count : ℕ) (f : List ℕ) → ((k : ℕ) → getD f k 0 < 256) → reloadIn count f .refusal ≡ 0 → ReferencesFit (reloadIn count f .table)
+form-fits count f h e =
+    rw ((reload-in count f e) .1)
+    (λ i c k. fit-at (slotsIn 0 (rest (rest (rest f))) count) i (slots-fit 0 count (rest (rest (rest f))) (rest-octets (rest (rest f)) (rest-octets (rest f) (rest-octets f h)))) c k)
+
+-- Every table that is reached.
+
+begun-fits : (b : Beginning) → begun b .refusal ≡ 0 → BegunInOctets b → ReferencesFit (begun b .table)
+begun-fits (start ranges pairs) e h = λ i c k. no-call ranges pairs i c k
+begun-fits (reload form) e h = form-fits slotCount form h e
+
+pub reached-fits : (t : Table) (r : Reached t) → CarriedOctets t r → ReferencesFit t
 reached-fits t r h =
     rw (r .gives) at
-    (after-fits (startOf (r .ranges) (r .pairs) .table) (r .events) (start-sound (r .ranges) (r .pairs)) h (λ i c k. no-call (r .ranges) (r .pairs) i c k))
+    (after-fits (begun (r .beginning) .table) (r .events) (begun-sound (r .beginning) (r .accepted)) (h .1) (begun-fits (r .beginning) (r .accepted) (h .0)))

@@ -50,7 +50,8 @@ use Rattle.effects.specs.Effects.{onNoCall, onHold, addressed, globalEffect, me
 use Rattle.control.specs.Refusals.{holdAt}
 use Rattle.control.specs.Outcome.{Outcome, acceptedAs, refusedWith, unlessRefused}
 use Rattle.control.specs.Events.{heardBy, cleared}
-use Rattle.control.specs.Reached.{Event, message, clear, happens, Reached}
+use Rattle.control.specs.Happens.{Event, message, clear, happens}
+use Rattle.reload.specs.Reached.{Reached}
 use Rattle.safety.specs.Tables.{slotAt}
 use Rattle.safety.specs.Slips.{NotHandedOut, ReleasedHolds, OneSide, SetupIsNew, BothOnes, Names, Untouched, DuplicateIgnored, NoStatusForStatus, PermanentStays}
 use Rattle.safety.proofs.Tables.{not-live, held-some, live-within, named-nothing}

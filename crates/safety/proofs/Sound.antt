@@ -1,7 +1,7 @@
--- Every table that is reached from a fresh start is sound.
+-- Every table that is reached is sound.
 --   new-free, new-unnamed      no live call has a new call's pair, nor its flagged reference
 --   change-sound               a change of a sound table is sound
---   start-sound, event-keeps-sound, reached-sound
+--   start-sound, begun-sound, event-keeps-sound, reached-sound
 --   never-shared, always-permitted, always-in-limits      "No two live calls hold one VPCI/VCI pair, every assigned VCI lies in 32 to 65535"
 -- Assumes nothing.
 use Prim.Native.Nat.{ℕ, _≤_}
@@ -27,7 +27,8 @@ use Rattle.effects.specs.declared.Table.{Table}
 use Rattle.effects.specs.Effect.{slotCount}
 use Rattle.control.specs.Outcome.{Outcome}
 use Rattle.control.specs.Events.{startOf}
-use Rattle.control.specs.Reached.{Event, happens, after, Reached}
+use Rattle.control.specs.Happens.{Event, happens, after}
+use Rattle.reload.specs.Reached.{Beginning, start, reload, begun, Reached}
 use Rattle.safety.specs.Tables.{slotAt, HasCall, Holds}
 use Rattle.safety.specs.FixedAnswers.{readingOf}
 use Rattle.safety.specs.Sound.{CallSound, Sound}
@@ -36,6 +37,7 @@ use Rattle.safety.proofs.Refusals.{refusalOf}
 use Rattle.safety.proofs.FixedAnswers.{outcomeOf, happens-unless, accepts}
 use Rattle.safety.proofs.Changes.{NewCall, Comes, old, new, Change}
 use Rattle.safety.proofs.Happenings.{accepted-reading, outcome-change}
+use Rattle.safety.proofs.Reloaded.{reload-sound}
 use Rattle.safety.proofs.Lists.{getD-replicate-default}
 use Rattle.safety.proofs.Cases.{beq-same}
 
@@ -150,8 +152,12 @@ after-sound : (t : Table) (es : List Event) → Sound t → Sound (after t es)
 after-sound t [] s = s
 after-sound t (e ∷ es) s = after-sound (happens t e .answer .table) es (event-keeps-sound t e s)
 
+pub begun-sound : (b : Beginning) → begun b .refusal ≡ 0 → Sound (begun b .table)
+begun-sound (start ranges pairs) e = start-sound ranges pairs
+begun-sound (reload form) e = reload-sound form e
+
 pub reached-sound : (t : Table) → Reached t → Sound t
-reached-sound t r = rw (r .gives) at (after-sound (startOf (r .ranges) (r .pairs) .table) (r .events) (start-sound (r .ranges) (r .pairs)))
+reached-sound t r = rw (r .gives) at (after-sound (begun (r .beginning) .table) (r .events) (begun-sound (r .beginning) (r .accepted)))
 
 -- "No two live calls hold one VPCI/VCI pair"
 pub never-shared : (t : Table) → Reached t → (i j : ℕ) (c d : Call) → HasCall t i c → HasCall t j d → c .vpci ≡ d .vpci → c .vci ≡ d .vci → i ≡ j

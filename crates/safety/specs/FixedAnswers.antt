@@ -28,7 +28,7 @@ use Rattle.effects.specs.Effect.{slotCount}
 use Rattle.control.specs.Refusals.{hostCauses}
 use Rattle.control.specs.Outcome.{Outcome}
 use Rattle.control.specs.Events.{startOf}
-use Rattle.control.specs.Reached.{Event, message, tick, connect, clear, offer, happens}
+use Rattle.control.specs.Happens.{Event, message, tick, connect, clear, offer, happens}
 use Rattle.safety.specs.Tables.{slotAt, HasCall, NoneEmpty, NoneFree}
 
 -- "All but start carry a clock label, a reading and a reply room."

@@ -16,7 +16,7 @@ use Rattle.calls.specs.declared.Flags.{Flags}
 use Rattle.calls.specs.Calls.{moved, noSlot}
 use Rattle.effects.specs.declared.Table.{Table}
 use Rattle.effects.specs.Effect.{slotCount}
-use Rattle.control.specs.Reached.{Event, happens}
+use Rattle.control.specs.Happens.{Event, happens}
 use Rattle.safety.specs.Tables.{slotAt, HasCall}
 
 abbrev pub flagOf : Flags → ℕ → Bool

@@ -24,7 +24,7 @@ use Rattle.setup.specs.Setup.{admission}
 use Rattle.judging.specs.Verdict.{plainCause}
 use Rattle.effects.specs.declared.Table.{Table}
 use Rattle.control.specs.Events.{heardBy, messageOf}
-use Rattle.control.specs.Reached.{Event, message, happens}
+use Rattle.control.specs.Happens.{Event, message, happens}
 use Rattle.safety.specs.Tables.{slotAt, HasCall, NoneFree}
 
 -- "Flag 0 received names a user-originated call, flag 1 a network-originated one."

@@ -25,7 +25,7 @@ use Rattle.effects.specs.declared.Table.{Table}
 use Rattle.effects.specs.Effects.{freePair, userCall, setupEffect, messageEffect}
 use Rattle.control.specs.Outcome.{Outcome}
 use Rattle.control.specs.Events.{messageOf, clearOf, networkCall}
-use Rattle.control.specs.Reached.{Event, happens}
+use Rattle.control.specs.Happens.{Event, happens}
 use Rattle.safety.specs.Tables.{slotAt, HasCall}
 use Rattle.safety.specs.NoPair.{NoSuchCall}
 use Rattle.safety.specs.SmallTable.{begun, setup, heard, offering, left}

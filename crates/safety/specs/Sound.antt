@@ -1,9 +1,9 @@
 -- Demand 2: "No two live calls hold one VPCI/VCI pair, every assigned VCI lies in 32 to 65535", and what else is so of every table
--- that is reached from a fresh start.
+-- that is reached.
 --   PhaseSound      a state with the side that began the call: its deadline, its cause
 --   CallSound       a live call: its pair is permitted, its reference is not the global one
 --   Sound           a table
---   InOctets, AllInOctets     events that carry octets, for the width of what is sent again
+--   InOctets, AllInOctets, CarriedOctets     events, and a beginning, that carry octets, for the width of what is sent again
 -- Assumes nothing.
 use Prim.Native.Nat.{ℕ, _+_, _≤_, _<_}
 use mathlib.Core.Path.{_≡_}
@@ -19,7 +19,8 @@ use Rattle.calls.specs.declared.Phase.the-variants.{N3, N6, N9, N10, N12}
 use Rattle.calls.specs.declared.Call.{Call}
 use Rattle.effects.specs.declared.Table.{Table}
 use Rattle.control.specs.Refusals.{hostCauses}
-use Rattle.control.specs.Reached.{Event, message, tick, connect, clear, offer}
+use Rattle.control.specs.Happens.{Event, message, tick, connect, clear, offer}
+use Rattle.reload.specs.Reached.{Reached, BegunInOctets}
 use Rattle.safety.specs.Tables.{HasSlots, HasCall}
 
 -- N3 is the user's call, N6 and N9 are the network's. A deadline is not further past the last reading than its timer is long:
@@ -66,6 +67,10 @@ InOctets (offer label reading room body) = (k : ℕ) → getD body k 0 < 256
 abbrev pub AllInOctets : List Event → Type 0
 AllInOctets [] = Unit {0}
 AllInOctets (e ∷ es) = InOctets e × AllInOctets es
+
+-- a reached table: the form that was reloaded too
+abbrev pub CarriedOctets : (t : Table) → Reached t → Type 0
+CarriedOctets t r = BegunInOctets (r .beginning) × AllInOctets (r .events)
 
 -- "23-bit reference": each live call's
 abbrev pub ReferencesFit : Table → Type 0

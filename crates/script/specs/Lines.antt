@@ -3,6 +3,7 @@
 --   lastRead, lastStored               the octets that end a line
 --   messageLine .. offerLine           what follows the clock, for each event
 --   eventLine, eventStored             the same, by the event's word
+--   saveLine, reloadLine               what follows `save` and `reload`
 --   lineOf, lineStored                 what a line says, and the octets that are stored of it
 --   Within                             no more octets than a room holds
 -- Assumes nothing.
@@ -94,15 +95,28 @@ abbrev pub timedStored : ℕ → List ℕ → Kind → Timed → List ℕ
 timedStored room l k timed.Bad = []
 timedStored room l k (timed.Is c at) = eventStored room l k at
 
+-- "save ROOM"
+abbrev pub saveLine : List ℕ → ℕ → Line
+saveLine l at = onField (fieldAt l at) line.Bad (λ room end. ended l end (line.Save room))
+
+-- "reload HEX"
+abbrev pub reloadLine : Octets → Line
+reloadLine octets.Bad = line.Bad
+reloadLine (octets.Are n) = line.Reload n
+
 abbrev pub wordLine : ℕ → List ℕ → Word → Line
 wordLine room l word.Unknown = line.Bad
 wordLine room l word.Start = line.Start
 wordLine room l (word.Event k) = timedLine room l k (clockAt l (endAt l 0))
+wordLine room l word.Save = saveLine l (endAt l 0)
+wordLine room l word.Reload = reloadLine (lastRead room l (endAt l 0))
 
 abbrev pub wordStored : ℕ → List ℕ → Word → List ℕ
 wordStored room l word.Unknown = []
 wordStored room l word.Start = []
 wordStored room l (word.Event k) = timedStored room l k (clockAt l (endAt l 0))
+wordStored room l word.Save = []
+wordStored room l word.Reload = lastStored room l (endAt l 0)
 
 -- what a line says, where a room of that many octets is lent; a start's lists are read apart
 abbrev pub lineOf : ℕ → List ℕ → Line
@@ -124,3 +138,5 @@ abbrev pub Within : Line → ℕ → Type 0
 Within line.Bad room = Unit {0}
 Within line.Start room = Unit {0}
 Within (line.Event c r) room = Asks r room
+Within (line.Save asked) room = Unit {0}
+Within (line.Reload n) room = n ≤ room

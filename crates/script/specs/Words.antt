@@ -1,21 +1,21 @@
 -- The words of a line, separated by one blank.
 --   countTo, placeOf            the first place of an octet from a place on
 --   endAt, wordAt               the word from a place up to the next blank or the line's end
---   equal, wordOf               the word that a line begins with
+--   wordOf                      the word that a line begins with
 --   fieldAt                     the number behind a blank
 -- Assumes nothing.
 use Prim.Native.Nat.{ℕ, zero, suc, _+_}
-use mathlib.Core.Bool.{Bool, true, false, cond, _&&_}
+use mathlib.Core.Bool.{cond}
 use mathlib.Core.List.{List, [], _∷_}
 use lib.Dec.{eqb, ltb}
 use lib.ListN.{length, drop}
-use Rattle.octets.specs.Octets.{part}
+use Rattle.octets.specs.Octets.{part, equal}
 use Rattle.script.specs.declared.decimal.Number.{Number}
 use Rattle.script.specs.declared.decimal.Number.the-variants as number
 use Rattle.script.specs.declared.words.Field.{Field}
 use Rattle.script.specs.declared.words.Field.the-variants as field
 use Rattle.script.specs.declared.words.Word.{Word}
-use Rattle.script.specs.declared.words.Word.the-variants.{Unknown, Start, Event}
+use Rattle.script.specs.declared.words.Word.the-variants.{Unknown, Start, Event, Save, Reload}
 use Rattle.script.specs.declared.words.Kind.the-variants.{Message, Tick, Connect, Clear, Offer}
 use Rattle.script.specs.Decimal.{numberOf}
 
@@ -35,14 +35,7 @@ endAt line at = placeOf 32 line at
 abbrev pub wordAt : List ℕ → ℕ → List ℕ
 wordAt line at = part line at (endAt line at)
 
--- the same octets
-abbrev pub equal : List ℕ → List ℕ → Bool
-equal [] [] = true
-equal [] (b ∷ t) = false
-equal (a ∷ s) [] = false
-equal (a ∷ s) (b ∷ t) = eqb a b && equal s t
-
--- `message`, `tick`, `connect`, `clear`, `offer` and `start`, in ASCII
+-- `message`, `tick`, `connect`, `clear`, `offer`, `start`, `save` and `reload`, in ASCII
 abbrev pub wordOf : List ℕ → Word
 wordOf w =
     cond (equal w (109 ∷ 101 ∷ 115 ∷ 115 ∷ 97 ∷ 103 ∷ 101 ∷ [])) (Event Message)
@@ -50,7 +43,9 @@ wordOf w =
     (cond (equal w (99 ∷ 111 ∷ 110 ∷ 110 ∷ 101 ∷ 99 ∷ 116 ∷ [])) (Event Connect)
     (cond (equal w (99 ∷ 108 ∷ 101 ∷ 97 ∷ 114 ∷ [])) (Event Clear)
     (cond (equal w (111 ∷ 102 ∷ 102 ∷ 101 ∷ 114 ∷ [])) (Event Offer)
-    (cond (equal w (115 ∷ 116 ∷ 97 ∷ 114 ∷ 116 ∷ [])) Start Unknown)))))
+    (cond (equal w (115 ∷ 116 ∷ 97 ∷ 114 ∷ 116 ∷ [])) Start
+    (cond (equal w (115 ∷ 97 ∷ 118 ∷ 101 ∷ [])) Save
+    (cond (equal w (114 ∷ 101 ∷ 108 ∷ 111 ∷ 97 ∷ 100 ∷ [])) Reload Unknown)))))))
 
 -- what is made of a field, by its two cases
 abbrev pub onField : {A : Type 0} → Field → A → (ℕ → ℕ → A) → A

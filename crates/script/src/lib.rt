@@ -5,7 +5,7 @@
 //   read                   a line; octets go to the front of a lent room
 //   List, Lists            the two lists of a start
 //   read_lists             a line that begins with `start`
-//   place_of, same         the first place of an octet from a place on; if two words are the same
+//   place_of               the first place of an octet from a place on
 // Assumes nothing.
 mod decimal;
 mod hex;
@@ -23,15 +23,14 @@ use words::Field;
 use words::Kind;
 use words::Word;
 pub use words::place_of;
-pub use words::same;
 ghost use mathlib.Core.Path.{_≡_};
 ghost use Prim.Native.Nat.{ℕ};
 ghost use lib.ListN.{length};
 ghost use Rattle.octets.specs.Octets.{front};
 ghost use Rattle.script.specs.Hex.{Fits};
-ghost use Rattle.script.specs.Lines.{clockAt, lastRead, lastStored, messageLine, tickLine, connectLine, clearLine, offerLine, eventLine, eventStored, timedLine, timedStored, lineOf, lineStored, Within};
+ghost use Rattle.script.specs.Lines.{clockAt, lastRead, lastStored, messageLine, tickLine, connectLine, clearLine, offerLine, saveLine, reloadLine, eventLine, eventStored, timedLine, timedStored, lineOf, lineStored, Within};
 
-// What each event but start carries. `room`: how many octets of reply room are lent.
+// What each event on a table carries. `room`: how many octets of reply room are lent.
 pub struct Clock {
     pub label: u64,
     pub reading: u64,
@@ -47,10 +46,13 @@ pub enum Request {
     Offer(usize),
 }
 
+// What a line asks. Save says how many octets of room are lent, reload how many came.
 pub enum Line {
     Bad,
     Start,
     Event(Clock, Request),
+    Save(u64),
+    Reload(usize),
 }
 
 // A clock, and the place behind it.
@@ -157,6 +159,31 @@ fn clear(line: &[u8], clock: Clock, at: usize) -> Line
     }
 }
 
+fn save(line: &[u8], at: usize) -> Line
+    ensures { λ r. ⌜ r ≡ saveLine (now (line .entry)) at ⌝ }
+    ensures within { λ r. ⌜ ((room : ℕ) → Within r room) ⌝ }
+{
+    match words::read_field(line, at) {
+        Field::Bad => Line::Bad,
+        Field::Is(room, end) => {
+            if end < line.len() {
+                return Line::Bad;
+            }
+            Line::Save(room)
+        }
+    }
+}
+
+fn reload(octets: Octets) -> Line
+    ensures { λ r. ⌜ r ≡ reloadLine octets ⌝ }
+    ensures within { λ r. ⌜ ((room : ℕ) → Fits octets room → Within r room) ⌝ }
+{
+    match octets {
+        Octets::Bad => Line::Bad,
+        Octets::Are(n) => Line::Reload(n),
+    }
+}
+
 // What follows the clock of an event.
 fn read_event(line: &[u8], kind: Kind, clock: Clock, at: usize, room: &mut [u8]) -> Line
     ensures { λ r. ⌜ (r ≡ eventLine (length (now (room .entry))) (now (line .entry)) kind clock at)
@@ -184,7 +211,7 @@ fn read_timed(line: &[u8], kind: Kind, at: usize, room: &mut [u8]) -> Line
     }
 }
 
-// Reads a line; the octets of a message or an offer go to the front of the room.
+// Reads a line; the octets of a message, an offer or a reload go to the front of the room.
 pub fn read(line: &[u8], room: &mut [u8]) -> Line
     ensures { λ r. ⌜ (r ≡ lineOf (length (now (room .entry))) (now (line .entry)))
         × (now (room .exit) ≡ front (lineStored (length (now (room .entry))) (now (line .entry))) (now (room .entry))) ⌝ }
@@ -195,5 +222,7 @@ pub fn read(line: &[u8], room: &mut [u8]) -> Line
         Word::Unknown => Line::Bad,
         Word::Start => Line::Start,
         Word::Event(kind) => read_timed(line, kind, end, room),
+        Word::Save => save(line, end),
+        Word::Reload => reload(last_octets(line, end, room)),
     }
 }

@@ -2,7 +2,7 @@
 ghost use mathlib.Core.Path.{_≡_};
 ghost use Prim.Native.Nat.{_≤_};
 ghost use lib.ListN.{length};
-ghost use Rattle.script.specs.Words.{placeOf, equal, wordOf, fieldAt};
+ghost use Rattle.script.specs.Words.{placeOf, wordOf, fieldAt};
 use crate::decimal;
 use crate::decimal::Number;
 
@@ -11,9 +11,11 @@ pub enum Word {
     Unknown,
     Start,
     Event(Kind),
+    Save,
+    Reload,
 }
 
-// The events but start.
+// The events on a table.
 pub enum Kind {
     Message,
     Tick,
@@ -58,43 +60,32 @@ pub fn read_field(line: &[u8], at: usize) -> Field
     }
 }
 
-// If two words have the same octets.
-pub fn same(a: &[u8], b: &[u8]) -> bool
-    ensures { λ r. ⌜ r ≡ equal (now (a .entry)) (now (b .entry)) ⌝ }
-{
-    if a.len() != b.len() {
-        return false;
-    }
-    let mut i: usize = 0;
-    while i < a.len() {
-        if a[i] != b[i] {
-            return false;
-        }
-        i += 1;
-    }
-    true
-}
-
 pub fn read_word(w: &[u8]) -> Word
     ensures { λ r. ⌜ r ≡ wordOf (now (w .entry)) ⌝ }
 {
-    if same(w, b"message") {
+    if octets::same(w, b"message") {
         return Word::Event(Kind::Message);
     }
-    if same(w, b"tick") {
+    if octets::same(w, b"tick") {
         return Word::Event(Kind::Tick);
     }
-    if same(w, b"connect") {
+    if octets::same(w, b"connect") {
         return Word::Event(Kind::Connect);
     }
-    if same(w, b"clear") {
+    if octets::same(w, b"clear") {
         return Word::Event(Kind::Clear);
     }
-    if same(w, b"offer") {
+    if octets::same(w, b"offer") {
         return Word::Event(Kind::Offer);
     }
-    if same(w, b"start") {
+    if octets::same(w, b"start") {
         return Word::Start;
+    }
+    if octets::same(w, b"save") {
+        return Word::Save;
+    }
+    if octets::same(w, b"reload") {
+        return Word::Reload;
     }
     Word::Unknown
 }

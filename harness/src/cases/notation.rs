@@ -12,27 +12,44 @@
 //! 42(00*470)         an octet many times
 //! "42 80 00"         octets as they stand
 //! ```
+//!
+//! `reload [FIELDS]` is a saved form. A field is `03(00*8)`, a tag with its
+//! contents, or `03=7(00*8)` with another length, or octets as they stand.
 
-use crate::compose::{header, hex, p1_elements, raw, FLAG};
+use crate::compose::{header, hex, p1_elements, raw, raw_field, FLAG};
 use crate::line::octets;
 use crate::types::KNOWN;
 
+/// What composes an element or a field from the words before its contents, its
+/// length and its contents.
+type Compose = fn(&str, usize, &[u8]) -> Result<Vec<u8>, String>;
+
 /// An event line with its octets in hex.
 pub fn expand(text: &str) -> Result<String, String> {
-    let Some((head, elements)) = text.split_once('[') else {
+    let Some((head, parts)) = text.split_once('[') else {
         return Ok(text.to_string());
     };
-    let elements = elements.strip_suffix(']').ok_or("no ] at the end")?;
-    let body = read_elements(elements)?;
+    let parts = parts.strip_suffix(']').ok_or("no ] at the end")?;
     let words: Vec<&str> = head.split_whitespace().collect();
-    let octets = match words.as_slice() {
-        ["offer", _, _, _] => body,
+    let (front, octets) = match words.as_slice() {
+        ["offer", _, _, _] => (4, read_parts(parts, element)?),
         ["message", _, _, _, kind, reference, options @ ..] => {
-            message(kind, reference, options, &body)?
+            let body = read_parts(parts, element)?;
+            (4, message(kind, reference, options, &body)?)
         }
+        ["reload"] => (1, read_parts(parts, field)?),
         _ => return Err(format!("octets in an event that has none: {head}")),
     };
-    Ok(format!("{} {}", words[..4].join(" "), hex(&octets)))
+    Ok(format!("{} {}", words[..front].join(" "), hex(&octets)))
+}
+
+fn element(head: &str, length: usize, contents: &[u8]) -> Result<Vec<u8>, String> {
+    let (id, octet2) = head.split_once('/').unwrap_or((head, "80"));
+    Ok(raw(octet(id)?, octet(octet2)?, length, contents))
+}
+
+fn field(tag: &str, length: usize, contents: &[u8]) -> Result<Vec<u8>, String> {
+    Ok(raw_field(octet(tag)?, length, contents))
 }
 
 fn message(kind: &str, reference: &str, options: &[&str], body: &[u8]) -> Result<Vec<u8>, String> {
@@ -71,19 +88,19 @@ fn read_reference(word: &str) -> Result<u32, String> {
     }
 }
 
-fn read_elements(text: &str) -> Result<Vec<u8>, String> {
+fn read_parts(text: &str, compose: Compose) -> Result<Vec<u8>, String> {
     let mut body = Vec::new();
     let mut rest = text.trim_start();
     while !rest.is_empty() {
-        let (element, behind) = read_element(rest)?;
-        body.extend(element);
+        let (part, behind) = read_part(rest, compose)?;
+        body.extend(part);
         rest = behind.trim_start();
     }
     Ok(body)
 }
 
-/// The first element of a text, and the text behind it.
-fn read_element(text: &str) -> Result<(Vec<u8>, &str), String> {
+/// The first element or field of a text, and the text behind it.
+fn read_part(text: &str, compose: Compose) -> Result<(Vec<u8>, &str), String> {
     if let Some(text) = text.strip_prefix('"') {
         let (inner, behind) = text.split_once('"').ok_or("no closing quotation mark")?;
         return Ok((contents(inner)?, behind));
@@ -99,8 +116,7 @@ fn read_element(text: &str) -> Result<(Vec<u8>, &str), String> {
         Some((head, length)) => (head, decimal(length)?),
         None => (head, contents.len()),
     };
-    let (id, octet2) = head.split_once('/').unwrap_or((head, "80"));
-    Ok((raw(octet(id)?, octet(octet2)?, length, &contents), behind))
+    Ok((compose(head, length, &contents)?, behind))
 }
 
 /// The element of P1 with this identifier.

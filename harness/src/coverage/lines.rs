@@ -4,7 +4,7 @@ use super::Rows;
 use crate::controller::Table;
 use crate::exchange::{Line, Outcome};
 
-const WORDS: [&str; 5] = ["message", "tick", "connect", "clear", "offer"];
+const WORDS: [&str; 6] = ["message", "tick", "connect", "clear", "offer", "save"];
 
 pub fn list(rows: &mut Rows) {
     rows.add("LI-skip", "an empty line or a comment");

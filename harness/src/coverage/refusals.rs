@@ -74,13 +74,13 @@ pub fn hit(rows: &mut Rows, seen: &Seen<'_>) {
 }
 
 fn hit_number(rows: &mut Rows, seen: &Seen<'_>) {
+    let (Some(request), Some(table)) = (seen.event.request(), seen.before) else {
+        return;
+    };
     let (word, number) = (seen.event.word(), seen.row().refusal());
     if let 1..=4 = number {
         rows.hit(&format!("RF-{number:02}-{word}"));
     }
-    let (Some(request), Some(table)) = (seen.event.request(), seen.before) else {
-        return;
-    };
     let applies = [
         request.room < 1_024,
         request.label != 1,

@@ -1,7 +1,7 @@
 //! Ticks: which timer fires, and when.
 
 use super::{timer, Rows, Seen};
-use crate::controller::{Call, READING_LIMIT};
+use crate::controller::{Call, Table, READING_LIMIT};
 use crate::exchange::Event;
 use crate::rows::Row;
 
@@ -29,6 +29,10 @@ pub fn list(rows: &mut Rows) {
         rows.add(
             format!("TI-{timer}-late"),
             format!("{timer}: fired after its deadline"),
+        );
+        rows.add(
+            format!("TI-{timer}-reloaded"),
+            format!("{timer} of a reloaded call fires"),
         );
     }
     for (id, words) in CASES {
@@ -67,6 +71,9 @@ fn hit_fired(rows: &mut Rows, seen: &Seen<'_>, reading: u64, due: &[(u64, usize,
     };
     let when = if deadline == reading { "at" } else { "late" };
     rows.hit(&format!("TI-{}-{when}", timer(call.state)));
+    let kept = |table: &Table| table.calls[slot] == Some(call);
+    let reloaded = seen.reloaded.is_some_and(kept);
+    rows.hit_if(reloaded, &format!("TI-{}-reloaded", timer(call.state)));
     let tie = due
         .iter()
         .any(|other| other.0 == deadline && other.1 > slot);

@@ -18,12 +18,18 @@ pub enum Line {
 
 #[derive(Clone, Debug, PartialEq, Eq)]
 pub enum Event {
-    Start { ranges: Vec<u16>, pairs: Vec<u16> },
+    Start {
+        ranges: Vec<u16>,
+        pairs: Vec<u16>,
+    },
     Message(Request, Vec<u8>),
     Tick(Request),
     Connect(Request, u64),
     Clear(Request, u64, u64),
     Offer(Request, Vec<u8>),
+    /// With the length of the room.
+    Save(usize),
+    Reload(Vec<u8>),
 }
 
 impl Event {
@@ -36,13 +42,15 @@ impl Event {
             Event::Connect(..) => "connect",
             Event::Clear(..) => "clear",
             Event::Offer(..) => "offer",
+            Event::Save(_) => "save",
+            Event::Reload(_) => "reload",
         }
     }
 
-    /// What every event but start carries.
+    /// What every event but start, save and reload carries.
     pub fn request(&self) -> Option<&Request> {
         match self {
-            Event::Start { .. } => None,
+            Event::Start { .. } | Event::Save(_) | Event::Reload(_) => None,
             Event::Message(request, _)
             | Event::Tick(request)
             | Event::Connect(request, _)
@@ -83,6 +91,8 @@ fn event(line: &[u8]) -> Option<Event> {
             request(label, reading, room)?,
             read_octets(octets)?,
         )),
+        [b"save", length] => Some(Event::Save(room(length)?)),
+        [b"reload", octets] => Some(Event::Reload(read_octets(octets)?)),
         _ => None,
     }
 }
@@ -103,12 +113,17 @@ fn list<'a, 'b>(words: &'a [&'b [u8]]) -> Option<(Vec<u16>, &'a [&'b [u8]])> {
     Some((numbers?, words))
 }
 
-fn request(label: &[u8], reading: &[u8], room: &[u8]) -> Option<Request> {
+fn request(label: &[u8], reading: &[u8], length: &[u8]) -> Option<Request> {
     Some(Request {
         label: number(label)?,
         reading: number(reading)?,
-        room: number(room)?.min(ROOM_LIMIT) as usize,
+        room: room(length)?,
     })
+}
+
+/// The length of the room that is lent.
+fn room(word: &[u8]) -> Option<usize> {
+    Some(number(word)?.min(ROOM_LIMIT) as usize)
 }
 
 /// A decimal number of 64 bits; leading zeros are read.

@@ -1,8 +1,8 @@
 //! Elements, readable and damaged, and bodies of them.
 
-use super::random::Random;
 use crate::compose::{element, p1_elements, raw};
 use crate::decode::*;
+use crate::random::Random;
 
 /// Subfields of a readable traffic descriptor that passes the rule.
 const PASSING: [&[u8]; 8] = [

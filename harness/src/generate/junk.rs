@@ -5,7 +5,7 @@ use crate::compose::{element, header};
 use crate::types::SETUP;
 
 /// Lines that cannot be read, whatever the table.
-const BAD: [&str; 34] = [
+const BAD: [&str; 50] = [
     "hold",
     "tick",
     "tick 1 0",
@@ -40,6 +40,22 @@ const BAD: [&str; 34] = [
     "start 3 0 32 33 1",
     "start 2 0 32 33 0",
     "start 3 0 32 65536 0",
+    "save",
+    "save ",
+    "save -",
+    "save -1",
+    "save 0x400",
+    "save 4096 0",
+    "save  4096",
+    "save 18446744073709551616",
+    "SAVE 4096",
+    "reload",
+    "reload ",
+    "reload 0",
+    "reload 0g",
+    "reload --",
+    "reload 01 00",
+    "reload - -",
 ];
 
 impl Generator {
@@ -93,7 +109,8 @@ impl Generator {
         match self.random.below(12) {
             0 => {
                 let octets = "00".repeat(self.random.pick(&[4_097, 5_000]));
-                format!("message 1 0 1024 {octets}").into_bytes()
+                let event = self.random.pick(&["message 1 0 1024", "reload"]);
+                format!("{event} {octets}").into_bytes()
             }
             1 => {
                 let line = self.tick_line();

@@ -1,6 +1,6 @@
 //! What a part of a script is about, from one start to the next.
 
-use super::random::Random;
+use crate::random::Random;
 
 /// The kinds of events, in the order of the weights of a plan.
 #[derive(Clone, Copy, Debug, PartialEq, Eq)]

@@ -61,9 +61,9 @@ impl Generator {
         };
         match self.random.below(10) {
             0..3 => first,
-            3 | 4 => first - 1,
+            3 | 4 => first.saturating_sub(1),
             5 => self.random.pick(&deadlines),
-            6 => self.random.pick(&deadlines) - 1,
+            6 => self.random.pick(&deadlines).saturating_sub(1),
             7 => end,
             8 => first + self.random.within(1, 5_000),
             _ => last + self.random.within(0, self.plan.pace),

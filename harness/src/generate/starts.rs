@@ -1,7 +1,7 @@
 //! Starts, accepted and refused.
 
 use super::plan::Supply;
-use super::random::Random;
+use crate::random::Random;
 
 /// The two lists of a start.
 type Lists = (Vec<u16>, Vec<u16>);

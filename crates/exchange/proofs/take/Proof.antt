@@ -31,8 +31,33 @@ enum-known-clock c = search needs
 
 handle-requires : tie.Need-handle-requires
 handle-requires c κs =
-    let e : length (c .before .before .before .before .before .before .before .read .last .1 .0) ≡ length (c .before .before .before .before .before .before .before .before .before .before .before .before .before .before .args .octets .now) = search needs in
-    (search needs, rw e (rw (c .before .before .before .clock .given .1) at (c .before .before .before .before .before .before .before .read .ensures .1)), (search needs, search needs))
+    let r = c .before .before .before .before .before .before .before in
+    let e : length (r .read .last .1 .0) ≡ length (r .before .before .before .before .before .before .before .args .octets .now) = search needs in
+    (search needs, rw e (rw (c .before .before .before .clock .given .1) at (r .read .ensures .1)), (search needs, search needs))
+
+enum-known-size : tie.Need-enum-known-size
+enum-known-size c = search needs
+
+keep-requires : tie.Need-keep-requires
+keep-requires c κs = search needs
+
+enum-known-n : tie.Need-enum-known-n
+enum-known-n c = search needs
+
+sub-restore : tie.Need-sub-restore
+sub-restore c = search needs
+
+part-restore-start : tie.Need-part-restore-start
+part-restore-start c = search needs
+
+part-restore-end : tie.Need-part-restore-end
+part-restore-end c =
+    let r = c .before .before .before .before .before .before in
+    let e : length (r .read .last .1 .0) ≡ length (r .before .before .before .before .before .before .before .args .octets .now) = search needs in
+    rw e (rw (c .before .before .n .given .1) at (r .read .ensures .1))
+
+restore-requires : tie.Need-restore-requires
+restore-requires c κs = search needs
 
 same-length : tie.Need-same-length
 same-length c = search needs
@@ -61,6 +86,24 @@ same-length-6 c = search needs
 returns-4 : tie.Need-returns-4
 returns-4 c = search needs
 
+same-length-7 : tie.Need-same-length-7
+same-length-7 c = search needs
+
+same-length-8 : tie.Need-same-length-8
+same-length-8 c = search needs
+
+returns-5 : tie.Need-returns-5
+returns-5 c = search needs
+
+same-length-9 : tie.Need-same-length-9
+same-length-9 c = search needs
+
+same-length-10 : tie.Need-same-length-10
+same-length-10 c = search needs
+
+returns-6 : tie.Need-returns-6
+returns-6 c = search needs
+
 pub take-spec : {M : Type 1} → statement M
 take-spec =
     tie.close
@@ -74,6 +117,13 @@ take-spec =
     begin-requires
     enum-known-clock
     handle-requires
+    enum-known-size
+    keep-requires
+    enum-known-n
+    sub-restore
+    part-restore-start
+    part-restore-end
+    restore-requires
     same-length
     same-length-2
     returns-2
@@ -82,4 +132,10 @@ take-spec =
     returns-3
     same-length-5
     same-length-6
-    returns-4)
+    returns-4
+    same-length-7
+    same-length-8
+    returns-5
+    same-length-9
+    same-length-10
+    returns-6)

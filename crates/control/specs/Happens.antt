@@ -1,14 +1,12 @@
--- Tables reached from a fresh start (document 01, "The list in demand 3").
+-- One event after the other (document 01, "The list in demand 3").
 --   Event, happens     one event other than start, and its outcome on a table
 --   after              the table after a list of events
---   Reached            a table that an accepted start gave, or any list of the other events after one
 -- Assumes nothing.
 use Prim.Native.Nat.{ℕ}
-use mathlib.Core.Path.{_≡_}
 use mathlib.Core.List.{List, [], _∷_}
 use Rattle.effects.specs.declared.Table.{Table}
 use Rattle.control.specs.Outcome.{Outcome}
-use Rattle.control.specs.Events.{startOf, messageOf, tickOf, connectOf, clearOf, offerOf}
+use Rattle.control.specs.Events.{messageOf, tickOf, connectOf, clearOf, offerOf}
 
 -- label, reading and the length of the reply room; then what the event carries
 pub data Event : Type 0 where
@@ -29,11 +27,3 @@ happens t (offer label reading room body) = offerOf t label reading room body
 abbrev pub after : Table → List Event → Table
 after t [] = t
 after t (e ∷ es) = after (happens t e .answer .table) es
-
--- "A table is reached from a fresh start if an accepted start gave it, or any list of the other events after one"
-pub record Reached (t : Table) : Type 0 where
-  pub ranges : List ℕ
-  pub pairs : List ℕ
-  pub accepted : startOf ranges pairs .refusal ≡ 0
-  pub events : List Event
-  pub gives : after (startOf ranges pairs .table) events ≡ t

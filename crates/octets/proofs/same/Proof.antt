@@ -1,14 +1,14 @@
--- `script::words::same` meets its contract. The loop's invariant: the words are the same if what is left of them is.
+-- `octets::same` meets its contract. The loop's invariant: the runs are the same if what is left of them is.
 -- Assumes nothing.
 use borrow.Author.Needs.{needs}
 use native.Mathlib.Omega.{arith}
 use Prim.Native.Nat.{_-_, _≤_}
 use mathlib.Core.Path.{_≡_, refl, sym, _∙_}
 use lib.ListN.{length, drop}
-use Rattle.script.specs.Words.{equal}
-use Rattle.script.proofs.Cut.{equal-not, equal-here, equal-end, equal-lengths}
-use Rattle.script.proofs.words.same.Statement.{statement}
-use Rattle.script.proofs.words.same.Tie as tie
+use Rattle.octets.specs.Octets.{equal}
+use Rattle.octets.proofs.Equal.{equal-not, equal-here, equal-end, equal-lengths}
+use Rattle.octets.proofs.same.Statement.{statement}
+use Rattle.octets.proofs.same.Tie as tie
 
 abbrev Inv-loop : tie.InvT-loop
 Inv-loop a b i₀ i = (i ≤ length a) × (length a ≡ length b) × (equal a b ≡ equal (drop i a) (drop i b))

@@ -1,0 +1,42 @@
+-- `reload::table_of` meets its contract: by its parts.
+-- Assumes nothing.
+use mathlib.Core.Path.{sym, ap, _∙_}
+use Rattle.reload.specs.Reading.{rest}
+use Rattle.reload.proofs.Walk.{table-parts}
+use borrow.Author.Needs.{needs}
+use Rattle.reload.proofs.table_of.Statement.{statement}
+use Rattle.reload.proofs.table_of.Tie as tie
+
+behind-requires : tie.Need-behind-requires
+behind-requires c κs = search needs
+
+behind-requires-2 : tie.Need-behind-requires-2
+behind-requires-2 c κs = search needs
+
+behind-requires-3 : tie.Need-behind-requires-3
+behind-requires-3 c κs = search needs
+
+slots-in-requires : tie.Need-slots-in-requires
+slots-in-requires c κs = search needs
+
+eight-in-requires : tie.Need-eight-in-requires
+eight-in-requires c κs = search needs
+
+returns : tie.Need-returns
+returns c =
+    let d = c .before .before .before .before in
+    let a = d .before .before .args in
+    let first = d .behind .ensures .0 in
+    let second = c .before .before .before .behind2 .ensures .0 ∙ ap rest first in
+    table-parts (a .form .now) _ _ _ _ (a .pool) 32 (sym second) (sym (c .before .before .behind3 .ensures .0)) (c .before .slots-in .ensures) (c .eight-in .ensures) (d .before .before .pre)
+
+pub table-of-spec : {M : Type 1} → statement M
+table-of-spec =
+    tie.close
+    (tie.spec
+    behind-requires
+    behind-requires-2
+    behind-requires-3
+    slots-in-requires
+    eight-in-requires
+    returns)

@@ -1,0 +1,3 @@
+pub mod Reading
+pub mod Reload
+pub mod Reached

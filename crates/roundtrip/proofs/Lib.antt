@@ -1,0 +1,7 @@
+pub mod Numbers
+pub mod Fields
+pub mod Calls
+pub mod Lists
+pub mod Tables
+pub mod Kept
+pub mod Roundtrip

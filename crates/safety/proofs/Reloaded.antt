@@ -1,0 +1,175 @@
+-- Every table that a reload gives is sound.
+--   slots-counted            a form is read as so many slots
+--   kept-call                a call of a table whose slots are all kept
+--   kept-phase               its state with its deadline, cause and side
+--   form-sound               a table that a form is read as
+--   reload-in, reload-form, reload-sound     a reload that is accepted
+-- Over the number of slots. Assumes nothing.
+use Prim.Native.Nat.{ℕ, zero, suc, _+_, _≤_, _<_}
+use mathlib.Core.Path.{_≡_, refl, sym, ap, _∙_}
+use mathlib.Core.Logic.{_≢_}
+use mathlib.Core.Bool.{Bool, true, false, cond, not, _&&_}
+use mathlib.Core.List.{List, []}
+use native.Mathlib.Omega.{arith}
+use lib.Dec.{eqb, leb}
+use lib.ListN.{length}
+use borrow.Author.Tests.{eqb-true, eqb-false, leb-true, not-true, lt-ltb}
+use Rattle.octets.specs.Octets.{equal}
+use Rattle.octets.proofs.Equal.{equal-same}
+use Rattle.contents.specs.Traffic.{member}
+use Rattle.channels.specs.Channels.{permitted, inRanges}
+use Rattle.channels.proofs.Cases.{by-test, clash, both}
+use Rattle.provisioning.specs.Provisioning.{provision}
+use Rattle.provisioning.proofs.Accepted.{provision-pair}
+use Rattle.calls.specs.declared.Clearing.{Clearing}
+use Rattle.calls.specs.declared.Phase.{Phase}
+use Rattle.calls.specs.declared.Phase.the-variants.{N3, N6, N9, N10, N12}
+use Rattle.calls.specs.declared.Call.{Call}
+use Rattle.calls.specs.declared.Found.{Found}
+use Rattle.calls.specs.declared.Found.the-variants.{Nothing, At}
+use Rattle.calls.specs.First.{place}
+use Rattle.calls.specs.Calls.{isCall, holdsPair}
+use Rattle.effects.specs.declared.Table.{Table}
+use Rattle.effects.specs.Effect.{slotCount}
+use Rattle.control.specs.Refusals.{largestReading, hostCauses}
+use Rattle.saved.specs.Form.{formOf}
+use Rattle.reload.specs.Reading.{rangeNumbers, pairNumbers, rest, behindSlot, slotsIn, tableIn}
+use Rattle.reload.specs.Reload.{phaseKept, isAt, callKept, slotKept, allBelow, isForm, reloadIn, reloadOf}
+use Rattle.safety.specs.Tables.{HasSlots, HasCall}
+use Rattle.safety.specs.Sound.{PhaseSound, in-N3, in-N6, in-N9, in-N10, by-host, by-timer, CallSound, Sound}
+use Rattle.safety.proofs.Tables.{live-within}
+
+pub slots-counted : (slot n : ℕ) (f : List ℕ) → length (slotsIn slot f n) ≡ n
+unfolding slotsIn
+slots-counted slot zero f = refl
+slots-counted slot (suc n) f = ap suc (slots-counted (slot + 1) n (behindSlot slot f))
+
+below-at : (p : ℕ → Bool) (n i : ℕ) → allBelow p n ≡ true → i < n → p i ≡ true
+unfolding allBelow
+below-at p zero i e h = absurd (omega arith)
+below-at p (suc n) i e h =
+    let parts = both (allBelow p n) (p n) e in
+    by-test (eqb i n)
+    (λ y. rw (eqb-true i n y) (parts .1))
+    (λ z. let apart : i ≢ n = eqb-false i n z in below-at p n i (parts .0) (omega (arith, apart)))
+
+-- what a kept call has
+pub record Kept (t : Table) (i : ℕ) (c : Call) : Type 0 where
+  pub not-global : c .reference ≢ 0
+  pub first-on-pair : place (holdsPair (c .vpci) (c .vci)) (t .slots .all) ≡ At i
+  pub first-named : place (isCall (c .network) (c .reference)) (t .slots .all) ≡ At i
+  pub permits : permitted (t .pool) (c .vpci) (c .vci) ≡ true
+  pub phase : phaseKept (t .last) (c .network) (c .phase) ≡ true
+
+is-at : (i : ℕ) (x : Found) → isAt i x ≡ true → x ≡ At i
+is-at i Nothing e = clash e refl
+is-at i (At j) e = ap At (eqb-true j i e)
+
+pub call-kept : (t : Table) (i : ℕ) (c : Call) → callKept t i c ≡ true → Kept t i c
+call-kept t i c e =
+    let a = both (not (eqb (c .reference) 0)) _ e in
+    let b = both (isAt i (place (holdsPair (c .vpci) (c .vci)) (t .slots .all))) _ (a .1) in
+    let d = both (isAt i (place (isCall (c .network) (c .reference)) (t .slots .all))) _ (b .1) in
+    let f = both (permitted (t .pool) (c .vpci) (c .vci)) _ (d .1) in
+    record {
+      not-global = eqb-false (c .reference) 0 (not-true (eqb (c .reference) 0) (a .0));
+      first-on-pair = is-at i _ (b .0);
+      first-named = is-at i _ (d .0);
+      permits = f .0;
+      phase = f .1;
+    }
+
+kept-call : (count : ℕ) (t : Table) (i : ℕ) (c : Call) → length (t .slots .all) ≡ count → allBelow (slotKept t) count ≡ true → HasCall t i c → Kept t i c
+kept-call count t i c size e h =
+    let here = below-at (slotKept t) count i e (omega (arith, live-within t i c h, size)) in
+    call-kept t i c (rw h at here)
+
+-- "a state, timer, side or cause"
+kept-clearing : (last : ℕ) (network : Bool) (k : Clearing) (x : Bool) → k .expired ≡ x → k .deadline ≤ last + 30000
+    → cond x (network && eqb (k .cause) 102) (member (k .cause) hostCauses) ≡ true → PhaseSound last network (N12 k)
+kept-clearing last true k true x d e = by-timer k d (eqb-true (k .cause) 102 e) x
+kept-clearing last false k true x d e = clash e refl
+kept-clearing last true k false x d e = by-host true k d e x
+kept-clearing last false k false x d e = by-host false k d e x
+
+pub kept-phase : (last : ℕ) (network : Bool) (p : Phase) → phaseKept last network p ≡ true → PhaseSound last network p
+kept-phase last true N3 e = clash e refl
+kept-phase last false N3 e = in-N3
+kept-phase last true (N6 d) e = in-N6 d (leb-true d (last + 4000) e)
+kept-phase last false (N6 d) e = clash e refl
+kept-phase last true (N9 d) e = in-N9 d (leb-true d (last + 10000) e)
+kept-phase last false (N9 d) e = clash e refl
+kept-phase last true N10 e = in-N10 true
+kept-phase last false N10 e = in-N10 false
+kept-phase last true (N12 k) e =
+    let a = both (leb (k .deadline) (last + 30000)) _ e in
+    kept-clearing last true k (k .expired) refl (leb-true _ _ (a .0)) (a .1)
+kept-phase last false (N12 k) e =
+    let a = both (leb (k .deadline) (last + 30000)) _ e in
+    kept-clearing last false k (k .expired) refl (leb-true _ _ (a .0)) (a .1)
+
+-- a table whose pool is start's and whose calls are kept
+kept-sound : (t : Table) (rs ps : List ℕ) → HasSlots t → t .last ≤ 4000000000000 → t .pool ≡ provision rs ps .pool
+    → ((i : ℕ) (c : Call) → HasCall t i c → Kept t i c) → Sound t
+kept-sound t rs ps size high pool kept = record {
+  has-slots = size;
+  last-high = high;
+  numbers = numbers;
+  calls-sound = λ i c h.
+      let k = kept i c h in
+      let n = numbers (c .vpci) (c .vci) (k .permits) in
+      record {
+        pair-permitted = k .permits;
+        vpci-high = n .0;
+        vci-low = n .1;
+        vci-high = n .2;
+        not-global = k .not-global;
+        phase-sound = kept-phase (t .last) (c .network) (c .phase) (k .phase);
+      };
+  pair-once = λ i j c d h g p v. one-place i j (sym (kept i c h .first-on-pair) ∙ rw (p, v) (kept j d g .first-on-pair));
+  reference-once = λ i j c d h g p v. one-place i j (sym (kept i c h .first-named) ∙ rw (p, v) (kept j d g .first-named));
+}
+  where
+    one-place : (i j : ℕ) → At i ≡ At j → i ≡ j
+    one-place i j h = cc
+
+    numbers : (p v : ℕ) → permitted (t .pool) p v ≡ true → (p ≤ 255) × (32 ≤ v) × (v ≤ 65535)
+    numbers p v h =
+        let k = provision-pair rs ps p v ((both (inRanges p v (provision rs ps .pool .ranges)) _ (rw pool at h)) .0) in
+        (k .vpci-high, k .low, k .high)
+
+-- what octets have that are a form
+pub record Form (count : ℕ) (f : List ℕ) : Type 0 where
+  pub accepted : provision (rangeNumbers f) (pairNumbers f) .accepted ≡ true
+  pub reading : tableIn count f .last ≤ 4000000000000
+  pub all-kept : allBelow (slotKept (tableIn count f)) count ≡ true
+  pub same : formOf (tableIn count f) ≡ f
+
+pub form-is : (count : ℕ) (f : List ℕ) → isForm count f ≡ true → Form count f
+form-is count f e =
+    let a = both (provision (rangeNumbers f) (pairNumbers f) .accepted) _ e in
+    let b = both (leb (tableIn count f .last) largestReading) _ (a .1) in
+    let d = both (allBelow (slotKept (tableIn count f)) count) _ (b .1) in
+    record { accepted = a .0; reading = leb-true _ _ (b .0); all-kept = d .0; same = equal-same _ _ (d .1) }
+
+form-sound : (count : ℕ) (f : List ℕ) → count ≡ slotCount → Form count f → Sound (tableIn count f)
+form-sound count f ours form =
+    let size : length (tableIn count f .slots .all) ≡ count = slots-counted 0 count (rest (rest (rest f))) in
+    kept-sound (tableIn count f) (rangeNumbers f) (pairNumbers f) (size ∙ ours) (form .reading) refl
+    (λ i c h. kept-call count (tableIn count f) i c size (form .all-kept) h)
+
+-- a reload that is accepted
+pub reload-in : (count : ℕ) (f : List ℕ) → reloadIn count f .refusal ≡ 0 → (Form count f) × (reloadIn count f .table ≡ tableIn count f)
+reload-in count f e =
+    by-test (isForm count f)
+    (λ y. (form-is count f y, rw y))
+    (λ n. let z : _≡_ {A = ℕ} 9 0 = rw n at e in absurd (omega arith))
+
+pub reload-form : (f : List ℕ) → reloadOf f .refusal ≡ 0 → (Form slotCount f) × (reloadOf f .table ≡ tableIn slotCount f)
+reload-form f e = reload-in slotCount f e
+
+sound-in : (count : ℕ) (f : List ℕ) → count ≡ slotCount → reloadIn count f .refusal ≡ 0 → Sound (reloadIn count f .table)
+sound-in count f ours e = let r = reload-in count f e in rw (r .1) (form-sound count f ours (r .0))
+
+pub reload-sound : (f : List ℕ) → reloadOf f .refusal ≡ 0 → Sound (reloadOf f .table)
+reload-sound f e = sound-in slotCount f refl e

@@ -1,0 +1,44 @@
+//! Writes the saved form of a table.
+
+use super::{Answer, Call, State, Table};
+use crate::compose::{field, pair_octets};
+use crate::rows::Row;
+
+impl Table {
+    /// The saved form, if a room of so many octets holds it.
+    pub fn save(&self, room: usize) -> Answer {
+        let form = self.form();
+        if form.len() > room {
+            return Answer::nothing(Row::SaveRoom);
+        }
+        Answer::reply(Row::SaveAccepted, form)
+    }
+
+    /// The fields: ranges, permanent pairs, last reading, live calls.
+    pub fn form(&self) -> Vec<u8> {
+        let ranges = self.pool.ranges.iter();
+        let ranges = ranges.flat_map(|range| [range.vpci, range.first, range.last]);
+        let ranges: Vec<u8> = ranges.flat_map(u16::to_be_bytes).collect();
+        let pairs = self.pool.permanent.iter();
+        let pairs: Vec<u8> = pairs.flat_map(|&pair| pair_octets(pair)).collect();
+        let mut form = field(0x01, &ranges);
+        form.extend(field(0x02, &pairs));
+        form.extend(field(0x03, &self.reading.to_be_bytes()));
+        for (slot, call) in self.live() {
+            form.extend(field(0x04, &call_octets(slot, &call)));
+        }
+        form
+    }
+}
+
+fn call_octets(slot: usize, call: &Call) -> Vec<u8> {
+    let [_, high, middle, low] = call.reference.received().to_be_bytes();
+    let mut octets = vec![slot as u8, high, middle, low];
+    octets.extend(pair_octets(call.pair));
+    octets.push(call.state.number());
+    octets.extend(call.state.deadline().map(u64::to_be_bytes).iter().flatten());
+    if let State::N12(clearing) = call.state {
+        octets.extend([1 + u8::from(clearing.second), clearing.cause]);
+    }
+    octets
+}

@@ -1,0 +1,74 @@
+//! Saved forms, damaged: octets, whole fields, and what the fields say.
+
+mod calls;
+mod draft;
+mod fields;
+mod lists;
+mod made;
+mod octets;
+
+pub use draft::Draft;
+pub use made::made;
+
+use crate::random::Random;
+
+/// Octets made from a saved form.
+#[derive(Clone, Debug, PartialEq, Eq)]
+pub struct Damage {
+    pub what: &'static str,
+    pub octets: Vec<u8>,
+    /// Whether they are a saved form, where the damage itself says so.
+    pub taken: Option<bool>,
+}
+
+impl Damage {
+    fn new(what: &'static str, octets: Vec<u8>, taken: Option<bool>) -> Damage {
+        Damage {
+            what,
+            octets,
+            taken,
+        }
+    }
+
+    fn refused(what: &'static str, octets: Vec<u8>) -> Damage {
+        Damage::new(what, octets, Some(false))
+    }
+
+    /// A draft that keeps the rules or does not.
+    fn draft(what: &'static str, draft: &Draft, taken: bool) -> Damage {
+        Damage::new(what, draft.octets(), Some(taken))
+    }
+}
+
+/// Damage of every kind: every octet and every field, the lists and the
+/// reading, and one of the calls.
+pub fn all(random: &mut Random, draft: &Draft) -> Vec<Damage> {
+    let mut list = octets::all(random, draft);
+    list.extend(fields::all(draft));
+    list.extend(lists::all(draft));
+    if !draft.calls.is_empty() {
+        let place = random.below(draft.calls.len());
+        for kind in calls::KINDS {
+            list.extend(kind(draft, place));
+        }
+    }
+    let form = draft.octets();
+    list.retain(|damage| damage.octets != form);
+    list
+}
+
+/// Damage of one kind.
+pub fn one(random: &mut Random, draft: &Draft) -> Damage {
+    let mut list = match random.below(20) {
+        0..3 => Vec::new(),
+        3..6 => fields::all(draft),
+        6..12 => lists::all(draft),
+        _ if draft.calls.is_empty() => Vec::new(),
+        _ => random.pick(&calls::KINDS)(draft, random.below(draft.calls.len())),
+    };
+    if list.is_empty() {
+        return octets::one(random, draft);
+    }
+    let place = random.below(list.len());
+    list.swap_remove(place)
+}

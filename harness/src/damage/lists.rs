@@ -1,0 +1,147 @@
+//! What the fields 01, 02 and 03 say, changed.
+
+use super::draft::{timer, Draft};
+use super::Damage;
+use crate::controller::READING_LIMIT;
+use crate::decode::Pair;
+
+pub fn all(draft: &Draft) -> Vec<Damage> {
+    let mut list = Vec::new();
+    for ranges in broken_ranges(&draft.ranges) {
+        let draft = Draft {
+            ranges,
+            ..draft.clone()
+        };
+        list.push(Damage::draft("ranges that start refuses", &draft, false));
+    }
+    for pairs in broken_pairs(&draft.pairs) {
+        let draft = Draft {
+            pairs,
+            ..draft.clone()
+        };
+        list.push(Damage::draft("pairs that start refuses", &draft, false));
+    }
+    list.extend(wider(draft));
+    list.extend(narrower(draft));
+    list.extend(permanent(draft));
+    list.extend(readings(draft));
+    list
+}
+
+/// Each breaks a rule of start, whatever the ranges were.
+fn broken_ranges(ranges: &[u16]) -> Vec<Vec<u16>> {
+    let &[.., vpci, first, last] = ranges else {
+        return Vec::new();
+    };
+    let end = ranges.len();
+    let and = |more: &[u16]| [ranges, more].concat();
+    let but = |place: usize, numbers: &[u16]| {
+        let behind = place + numbers.len();
+        [&ranges[..place], numbers, &ranges[behind..]].concat()
+    };
+    vec![
+        Vec::new(),
+        and(&[vpci]),
+        and(&[vpci, last]),
+        ranges[..end - 1].to_vec(),
+        (0..5).flat_map(|vpci| [vpci, 32, 40]).collect(),
+        but(end - 3, &[256]),
+        but(end - 3, &[vpci + 0x100]),
+        but(1, &[31]),
+        but(1, &[0]),
+        but(1, &[31, 31]),
+        but(end - 2, &[41, 40]),
+        and(&[vpci, first, last]),
+        and(&[vpci, last, last]),
+        and(&[0, 32, 33]),
+    ]
+}
+
+/// Each breaks a rule of start, whatever the pairs were.
+fn broken_pairs(pairs: &[u16]) -> Vec<Vec<u16>> {
+    let and = |more: &[u16]| [pairs, more].concat();
+    let mut list = vec![
+        and(&[0]),
+        (32..41).flat_map(|vci| [0, vci]).collect(),
+        and(&[256, 32]),
+        and(&[255, 31]),
+        vec![0, 31],
+        and(&[255, 65_535, 255, 65_535]),
+        vec![0, 33, 0, 32],
+        vec![1, 32, 0, 32],
+    ];
+    if let &[.., vpci, vci] = pairs {
+        list.push(and(&[vpci, vci]));
+        list.push(and(&[0, 32]));
+        list.push(pairs[1..].to_vec());
+    }
+    list
+}
+
+/// The last range with one pair more.
+fn wider(draft: &Draft) -> Option<Damage> {
+    let mut draft = draft.clone();
+    let last = draft.ranges.last_mut()?;
+    *last = last.checked_add(1)?;
+    Some(Damage::draft("a pair more is permitted", &draft, true))
+}
+
+/// A range that begins behind the pair of a call.
+fn narrower(draft: &Draft) -> Option<Damage> {
+    let mut draft = draft.clone();
+    let Pair { vpci, vci } = draft.calls.first()?.pair;
+    let held = |range: &[u16]| range[0] == vpci && (range[1]..range[2]).contains(&vci);
+    let place = draft.ranges.chunks(3).position(held)?;
+    draft.ranges[3 * place + 1] = vci + 1;
+    Some(Damage::draft("a call's pair out of range", &draft, false))
+}
+
+/// One permanent pair more: of a call, or free.
+fn permanent(draft: &Draft) -> Vec<Damage> {
+    let held = draft.calls.last().map(|call| call.pair);
+    let room = draft.pairs.len() < 16;
+    let tries = [
+        ("a call's pair made permanent", held, false),
+        ("a free pair made permanent", draft.free_pair(), room),
+    ];
+    let mut list = Vec::new();
+    for (what, pair, taken) in tries {
+        let Some(pair) = pair else { continue };
+        let mut pairs: Vec<[u16; 2]> = draft.pairs.chunks(2).map(|two| [two[0], two[1]]).collect();
+        pairs.push([pair.vpci, pair.vci]);
+        pairs.sort_unstable();
+        let draft = Draft {
+            pairs: pairs.concat(),
+            ..draft.clone()
+        };
+        list.push(Damage::draft(what, &draft, taken));
+    }
+    list
+}
+
+/// Readings at and over the limit, and so low that a deadline is as far as it
+/// can be, or one further.
+fn readings(draft: &Draft) -> Vec<Damage> {
+    let calls = draft.calls.iter();
+    let least = calls.filter_map(|call| Some(call.deadline?.saturating_sub(timer(call.state)?)));
+    let least = least.max().unwrap_or(0);
+    let mut tries = vec![
+        ("the largest reading", READING_LIMIT, true),
+        ("a reading over the limit", READING_LIMIT + 1, false),
+        ("a reading over the limit", 1 << 42, false),
+        ("a reading over the limit", 1 << 63, false),
+        ("a reading over the limit", u64::MAX, false),
+        ("the lowest reading", least, true),
+    ];
+    if let Some(less) = least.checked_sub(1) {
+        tries.push(("a reading one too low", less, false));
+    }
+    let with = |(what, reading, taken)| {
+        let draft = Draft {
+            reading,
+            ..draft.clone()
+        };
+        Damage::draft(what, &draft, taken)
+    };
+    tries.into_iter().map(with).collect()
+}

@@ -1,0 +1,141 @@
+//! Tables that no events gave, but that keep the rules.
+
+use super::draft::{timer, Draft, Entry};
+use crate::compose::FLAG;
+use crate::controller::{Pool, HOST_CAUSES, READING_LIMIT, SLOTS};
+use crate::decode::Pair;
+use crate::random::Random;
+
+/// The states of each side.
+const USER: [u8; 3] = [3, 10, 12];
+const NETWORK: [u8; 4] = [6, 9, 10, 12];
+
+/// A draft that keeps the rules, with at most so many calls.
+pub fn made(random: &mut Random, most: usize) -> Draft {
+    let (ranges, pairs) = lists(random);
+    let reading = match random.below(4) {
+        0 => random.pick(&[0, 1, 3_999, 40_000]),
+        1 => READING_LIMIT - random.pick(&[0, 0, 1, 29_999, 30_000]),
+        _ => random.within(0, READING_LIMIT),
+    };
+    let mut draft = Draft {
+        ranges,
+        pairs,
+        reading,
+        calls: Vec::new(),
+    };
+    let count = match random.below(4) {
+        0 => most,
+        1 => random.below(4).min(most),
+        _ => random.below(most + 1),
+    };
+    add_calls(random, &mut draft, count);
+    draft
+}
+
+/// Lists that start accepts.
+fn lists(random: &mut Random) -> (Vec<u16>, Vec<u16>) {
+    loop {
+        let count = random.within(1, 4);
+        let mut ranges: Vec<[u16; 3]> = (0..count).map(|_| range(random)).collect();
+        ranges.sort_unstable();
+        let count = random.pick(&[0, 0, 1, 2, 5, 7, 8, 8]);
+        let mut pairs: Vec<[u16; 2]> = (0..count).map(|_| near(random, &ranges)).collect();
+        pairs.sort_unstable();
+        let (ranges, pairs) = (ranges.concat(), pairs.concat());
+        if Pool::new(&ranges, &pairs).is_ok() {
+            return (ranges, pairs);
+        }
+    }
+}
+
+fn range(random: &mut Random) -> [u16; 3] {
+    let vpci = random.pick(&[0, 0, 1, 2, 200, 255]);
+    let first = match random.below(4) {
+        0 => 32,
+        1 => random.pick(&[33, 40, 255, 256, 65_500, 65_535]),
+        _ => random.within(32, 65_535) as u16,
+    };
+    let more = random.pick(&[0, 1, 2, 7, 20, 40, 300]);
+    [vpci, first, first.saturating_add(more)]
+}
+
+/// A pair in a range or close to one.
+fn near(random: &mut Random, ranges: &[[u16; 3]]) -> [u16; 2] {
+    let [vpci, first, last] = random.pick(ranges);
+    match random.below(6) {
+        0 => [vpci, first],
+        1 => [vpci, last],
+        2 => [vpci, last.saturating_add(1)],
+        3 => [random.below(256) as u16, random.within(32, 65_535) as u16],
+        _ => [
+            vpci,
+            random.within(u64::from(first), u64::from(last)) as u16,
+        ],
+    }
+}
+
+/// Calls on pairs and in slots of any order, as far as there are pairs.
+fn add_calls(random: &mut Random, draft: &mut Draft, count: usize) {
+    let pool = Pool::new(&draft.ranges, &draft.pairs);
+    let permitted = pool.iter().flat_map(Pool::permitted);
+    let mut permitted: Vec<Pair> = permitted.collect();
+    random.shuffle(&mut permitted);
+    let mut slots: Vec<u8> = (0..SLOTS as u8).collect();
+    random.shuffle(&mut slots);
+    for (slot, pair) in slots.into_iter().zip(permitted).take(count) {
+        let reference = reference(random, draft);
+        let entry = Entry {
+            slot,
+            reference,
+            pair,
+            state: 0,
+            deadline: None,
+            times: None,
+            cause: None,
+        };
+        let entry = stated(random, entry, draft.reading);
+        draft.calls.push(entry);
+    }
+    draft.calls.sort_unstable_by_key(|call| call.slot);
+}
+
+/// A flagged reference that no call has yet.
+fn reference(random: &mut Random, draft: &Draft) -> u32 {
+    loop {
+        let value = match random.below(4) {
+            0 => random.within(1, 40),
+            1 => random.pick(&[1, 32, 33, 255, 256, 0x1_0000, 0x40_0000, 0x7f_ffff]),
+            _ => random.within(1, 0x7f_ffff),
+        };
+        let reference = value as u32 + random.pick(&[0, FLAG]);
+        if !draft.calls.iter().any(|call| call.reference == reference) {
+            return reference;
+        }
+    }
+}
+
+/// A state of the call's side, with all that goes with it.
+fn stated(random: &mut Random, entry: Entry, reading: u64) -> Entry {
+    let network = entry.reference & FLAG != 0;
+    let state = if network {
+        random.pick(&NETWORK)
+    } else {
+        random.pick(&USER)
+    };
+    let most = reading + timer(state).unwrap_or(0);
+    let deadline = match random.below(6) {
+        0 => 0,
+        1 => reading,
+        2 => most,
+        3 => random.within(0, most),
+        _ => random.within(reading, most),
+    };
+    let mut entry = entry.in_state(state, deadline);
+    if state == 12 {
+        entry.times = Some(random.pick(&[1, 2]));
+        let own = network && random.chance(40);
+        entry.cause = Some(if own { 102 } else { random.pick(&HOST_CAUSES) });
+    }
+    entry
+}
