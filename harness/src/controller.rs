@@ -18,8 +18,12 @@ pub use timer::{T303, T308, T310};
 
 use crate::decode::Pair;
 use crate::rows::Row;
+use std::collections::BTreeSet;
 
 pub const SLOTS: usize = 32;
+
+/// As many pairs can be in doubt.
+pub const DOUBTS: usize = 64;
 
 /// The smallest reply room.
 pub const ROOM: usize = 1_024;
@@ -106,6 +110,8 @@ pub struct Table {
     /// The last accepted reading.
     pub reading: u64,
     pub pool: Pool,
+    /// The pairs in doubt, ascending by VPCI and then VCI.
+    pub doubts: BTreeSet<Pair>,
 }
 
 impl Table {
@@ -115,6 +121,7 @@ impl Table {
             calls: [None; SLOTS],
             reading: 0,
             pool: Pool::new(ranges, pairs)?,
+            doubts: BTreeSet::new(),
         })
     }
 
@@ -156,13 +163,18 @@ impl Table {
         self.calls.iter().position(Option::is_none)
     }
 
-    /// The lowest permitted pair that no live call holds.
-    pub fn free_pair(&self) -> Option<Pair> {
-        let held = |pair: Pair| self.live().any(|(_, call)| call.pair == pair);
-        self.pool.permitted().find(|&pair| !held(pair))
+    /// A live call holds the pair.
+    pub fn holds(&self, pair: Pair) -> bool {
+        self.live().any(|(_, call)| call.pair == pair)
     }
 
-    /// Empties slots and says so.
+    /// The lowest permitted pair that is neither held nor in doubt.
+    pub fn free_pair(&self) -> Option<Pair> {
+        let free = |pair: &Pair| !self.holds(*pair) && !self.doubts.contains(pair);
+        self.pool.permitted().find(free)
+    }
+
+    /// Empties slots and says so. Their pairs are free.
     fn gone(&mut self, row: Row, flags: Flags) -> Answer {
         for slot in flags.slots() {
             self.calls[slot] = None;

@@ -2,6 +2,7 @@
 
 mod answers;
 mod calls;
+mod doubts;
 mod hosts;
 mod lines;
 mod refusals;
@@ -122,6 +123,7 @@ pub struct Coverage {
     rows: Rows,
     exchange: Exchange,
     reloaded: Option<Table>,
+    history: doubts::History,
 }
 
 impl Default for Coverage {
@@ -141,10 +143,12 @@ impl Default for Coverage {
         timers::list(&mut rows);
         answers::list(&mut rows);
         saves::list(&mut rows);
+        doubts::list(&mut rows);
         Coverage {
             rows,
             exchange: Exchange::default(),
             reloaded: None,
+            history: doubts::History::default(),
         }
     }
 }
@@ -196,6 +200,7 @@ impl Coverage {
         timers::hit(rows, &seen);
         answers::hit(rows, &seen);
         saves::hit(rows, &seen);
+        doubts::hit(rows, &seen, &mut self.history);
     }
 
     /// The table of rows, and a last line on those not reached.

@@ -1,6 +1,7 @@
 //! Saved forms, damaged: octets, whole fields, and what the fields say.
 
 mod calls;
+mod doubts;
 mod draft;
 mod fields;
 mod lists;
@@ -8,7 +9,7 @@ mod made;
 mod octets;
 
 pub use draft::Draft;
-pub use made::made;
+pub use made::{doubtful, made};
 
 use crate::random::Random;
 
@@ -41,11 +42,12 @@ impl Damage {
 }
 
 /// Damage of every kind: every octet and every field, the lists and the
-/// reading, and one of the calls.
+/// reading, the pairs in doubt, and one of the calls.
 pub fn all(random: &mut Random, draft: &Draft) -> Vec<Damage> {
     let mut list = octets::all(random, draft);
     list.extend(fields::all(draft));
     list.extend(lists::all(draft));
+    list.extend(doubts::all(draft));
     if !draft.calls.is_empty() {
         let place = random.below(draft.calls.len());
         for kind in calls::KINDS {
@@ -59,10 +61,11 @@ pub fn all(random: &mut Random, draft: &Draft) -> Vec<Damage> {
 
 /// Damage of one kind.
 pub fn one(random: &mut Random, draft: &Draft) -> Damage {
-    let mut list = match random.below(20) {
+    let mut list = match random.below(24) {
         0..3 => Vec::new(),
         3..6 => fields::all(draft),
         6..12 => lists::all(draft),
+        12..16 => doubts::all(draft),
         _ if draft.calls.is_empty() => Vec::new(),
         _ => random.pick(&calls::KINDS)(draft, random.below(draft.calls.len())),
     };

@@ -13,6 +13,7 @@ mod starts;
 
 use crate::compose::hex;
 use crate::controller::{Call, Table};
+use crate::damage::doubtful;
 use crate::exchange::{Exchange, Outcome};
 use crate::random::Random;
 use plan::{Class, Plan};
@@ -25,8 +26,8 @@ pub struct Generator {
     plan: Plan,
     /// The lines before the next plan.
     left: u64,
-    /// The line that comes next: the start behind a comment that names its
-    /// plan, or a reload.
+    /// The line that comes next: the start or reload behind a comment that
+    /// names its plan, or another reload.
     waiting: Option<String>,
     /// The form last saved.
     saved: Option<Vec<u8>>,
@@ -92,7 +93,8 @@ impl Generator {
         }
     }
 
-    /// A plan and its start, or a refused start with some lines behind it.
+    /// A plan and its start or reload, or a refused start with some lines
+    /// behind it.
     fn next_plan(&mut self) -> String {
         if self.random.chance(70) {
             self.left = self.random.within(0, 2);
@@ -101,7 +103,12 @@ impl Generator {
         self.plan = Plan::draw(&mut self.random);
         self.left = self.random.within(20, 700);
         let lists = starts::good(&mut self.random, self.plan.supply);
-        self.waiting = Some(starts::line(&lists));
+        self.waiting = Some(if self.plan.doubtful {
+            let draft = doubtful(&mut self.random, lists);
+            format!("reload {}", hex(&draft.octets()))
+        } else {
+            starts::line(&lists)
+        });
         format!("# {}", self.plan.name)
     }
 

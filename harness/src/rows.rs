@@ -113,7 +113,8 @@ rows! {
     T303 "TI-1" 0 "T303: gone, no message";
     T310 "TI-2" 0 "T310: RELEASE 102, diagnostic 310, N12, T308";
     T308First "TI-3" 0 "T308 first: RELEASE again and T308";
-    T308Second "TI-4" 0 "T308 second: gone";
+    T308Second "TI-4" 0 "T308 second: gone, the pair in doubt";
+    T308Waits "TI-5" 0 "T308 second with 64 pairs in doubt: N12, T308 again, no message";
     SaveAccepted "SV-0" 0 "save: the form";
     SaveRoom "SV-1" 1 "save: a smaller room is refused and untouched";
     ReloadAccepted "RL-0" 0 "reload accepted";
@@ -134,4 +135,12 @@ rows! {
     ReloadTimer "RL-9-15" 9 "neither the first T308 nor the second";
     ReloadCause "RL-9-16" 9 "a cause that no RELEASE of ours has";
     ReloadDeadline "RL-9-17" 9 "a deadline further past the last reading than its timer is long";
+    ReloadDoubtsMissing "RL-9-18" 9 "pairs in doubt: the field is missing";
+    ReloadDoubtsLength "RL-9-19" 9 "pairs in doubt: a length not a multiple";
+    ReloadDoubtsMany "RL-9-20" 9 "more than 64 pairs in doubt";
+    ReloadDoubtsRange "RL-9-21" 9 "a pair in doubt in no range";
+    ReloadDoubtsPermanent "RL-9-22" 9 "a pair in doubt that is permanent";
+    ReloadDoubtsTwice "RL-9-23" 9 "a pair in doubt twice";
+    ReloadDoubtsOrder "RL-9-24" 9 "pairs in doubt that do not ascend";
+    ReloadDoubtsHeld "RL-9-25" 9 "a pair in doubt that a call holds";
 }

@@ -33,7 +33,7 @@ fn one_seed_one_script() {
 #[test]
 fn every_reason_is_reached() {
     let mut coverage = Coverage::default();
-    for line in script(&mut Forms::new(2), 10_000) {
+    for line in script(&mut Forms::new(2), 40_000) {
         coverage.take(&line);
     }
     let text = coverage.text();

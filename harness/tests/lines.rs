@@ -133,15 +133,15 @@ fn octets() {
 }
 
 /// The form of a table behind the start.
-const FORM: &str = "0100060000002000210200000300080000000000000000";
+const FORM: &str = "0100060000002000210200000300080000000000000000050000";
 
 #[test]
 fn saves() {
     let saved = format!("0 {FORM} 0 - 0");
-    assert_eq!(behind("save 23"), saved);
+    assert_eq!(behind("save 26"), saved);
     assert_eq!(behind("save 018446744073709551615"), saved);
-    assert_eq!(behind("save 22"), "1 - 0 - 0");
-    assert_eq!(behind("save 22\nsave 4096"), format!("1 - 0 - 0|{saved}"));
+    assert_eq!(behind("save 25"), "1 - 0 - 0");
+    assert_eq!(behind("save 25\nsave 4096"), format!("1 - 0 - 0|{saved}"));
     assert_eq!(run(b"save 4096\nsave 0"), "no table|no table");
 }
 

@@ -12,10 +12,11 @@ fn form(hex: &str) -> Vec<u8> {
     octets(joined.as_bytes()).expect("hex")
 }
 
-/// A form with one range, VPCI 0 and VCI 32 to 33, no permanent pair and the
-/// reading 1000, with these calls.
+/// A form with one range, VPCI 0 and VCI 32 to 33, no permanent pair, the
+/// reading 1000 and no pair in doubt, with these calls.
 fn with(calls: &[&str]) -> Vec<u8> {
-    let mut octets = form("01 0006 0000 0020 0021 02 0000 03 0008 00000000000003E8");
+    let lists = "01 0006 0000 0020 0021 02 0000";
+    let mut octets = form(&format!("{lists} 03 0008 00000000000003E8 05 0000"));
     for call in calls {
         octets.extend(field(4, &form(call)));
     }
@@ -25,14 +26,15 @@ fn with(calls: &[&str]) -> Vec<u8> {
 #[test]
 fn a_form_by_hand() {
     let octets = form(
-        "01 000C 0000 0020 0021 0007 0028 0028 02 0004 0000 0021 03 0008 00000000000003E8 \
-         04 0009 00 000001 0000 0020 0A 04 0013 1F 800021 0007 0028 0C 0000000000007918 02 66",
+        "01 000C 0000 0020 0021 0007 0028 0029 02 0004 0000 0021 03 0008 00000000000003E8 \
+         05 0004 0007 0029 04 0009 00 000001 0000 0020 0A 04 0013 1F 800021 0007 0028 0C 0000000000007918 02 66",
     );
     let table = Table::reload(&octets).expect("a saved form");
     assert_eq!(table.form(), octets);
     assert_eq!((table.reading, table.live().count()), (1_000, 2));
     assert!(table.pool.ranges[1].has(Pair { vpci: 7, vci: 40 }));
     assert_eq!(table.pool.permanent, [Pair { vpci: 0, vci: 33 }]);
+    assert!(table.doubts.iter().eq([&Pair { vpci: 7, vci: 41 }]));
     let clearing = Clearing {
         deadline: 31_000,
         second: true,
@@ -55,10 +57,10 @@ fn a_form_by_hand() {
 fn rooms() {
     let table = Table::start(&[0, 32, 33], &[]).expect("a start");
     let form = table.form();
-    assert_eq!(form.len(), 23);
-    assert_eq!(table.save(23).reply, form);
-    assert_eq!(table.save(22).row, Row::SaveRoom);
-    assert_eq!(table.save(22).reply, []);
+    assert_eq!(form.len(), 26);
+    assert_eq!(table.save(26).reply, form);
+    assert_eq!(table.save(25).row, Row::SaveRoom);
+    assert_eq!(table.save(25).reply, []);
 }
 
 /// Forms with one call are refused.
@@ -120,30 +122,87 @@ fn second_calls() {
 #[test]
 fn fields() {
     let (ranges, pairs) = ("01 0006 0000 0020 0021", "02 0000");
-    let reading = "03 0008 0000000000000000";
+    let (reading, doubts) = ("03 0008 0000000000000000", "05 0000");
     for (parts, row) in [
         (vec![], Row::ReloadMissing),
-        (vec![ranges, pairs], Row::ReloadMissing),
-        (vec![ranges, pairs, reading, "05 0000"], Row::ReloadTag),
-        (vec![ranges, pairs, reading, "04 00"], Row::ReloadCut),
-        (vec![ranges, pairs, "03 0008 00"], Row::ReloadCut),
-        (vec![ranges, pairs, reading, pairs], Row::ReloadRepeated),
-        (vec![pairs, ranges, reading], Row::ReloadMisplaced),
-        (vec![ranges, "02 0001 00", reading], Row::ReloadLength),
-        (vec![ranges, pairs, "03 0001 00"], Row::ReloadLength),
-        (vec!["01 0000", pairs, reading], Row::StartNoRange),
-        (vec!["01 0002 0000", pairs, reading], Row::StartRangeLength),
-        (vec![ranges, "02 0002 0000", reading], Row::StartPairLength),
+        (vec![ranges, pairs, doubts], Row::ReloadMissing),
+        (vec![ranges, pairs, reading], Row::ReloadDoubtsMissing),
         (
-            vec![ranges, "02 0004 0000 001F", reading],
+            vec![ranges, pairs, reading, doubts, "06 0000"],
+            Row::ReloadTag,
+        ),
+        (
+            vec![ranges, pairs, reading, doubts, "04 00"],
+            Row::ReloadCut,
+        ),
+        (vec![ranges, pairs, reading, "05 0004 0000"], Row::ReloadCut),
+        (vec![ranges, pairs, "03 0008 00"], Row::ReloadCut),
+        (
+            vec![ranges, pairs, reading, doubts, pairs],
+            Row::ReloadRepeated,
+        ),
+        (
+            vec![ranges, pairs, reading, doubts, doubts],
+            Row::ReloadRepeated,
+        ),
+        (vec![pairs, ranges, reading, doubts], Row::ReloadMisplaced),
+        (vec![ranges, pairs, doubts, reading], Row::ReloadMisplaced),
+        (
+            vec![ranges, "02 0001 00", reading, doubts],
+            Row::ReloadLength,
+        ),
+        (vec![ranges, pairs, "03 0001 00", doubts], Row::ReloadLength),
+        (vec!["01 0000", pairs, reading, doubts], Row::StartNoRange),
+        (
+            vec!["01 0002 0000", pairs, reading, doubts],
+            Row::StartRangeLength,
+        ),
+        (
+            vec![ranges, "02 0002 0000", reading, doubts],
+            Row::StartPairLength,
+        ),
+        (
+            vec![ranges, "02 0004 0000 001F", reading, doubts],
             Row::StartPairVci,
         ),
     ] {
         assert_eq!(Table::reload(&form(&parts.concat())), Err(row), "{parts:?}");
     }
     let most = "03 0008 000003A352944000";
-    assert!(Table::reload(&form(&[ranges, pairs, most].concat())).is_ok());
+    assert!(Table::reload(&form(&[ranges, pairs, most, doubts].concat())).is_ok());
     let over = "03 0008 000003A352944001";
-    let refused = Table::reload(&form(&[ranges, pairs, over].concat()));
+    let refused = Table::reload(&form(&[ranges, pairs, over, doubts].concat()));
     assert_eq!(refused, Err(Row::ReloadReading));
+}
+
+/// Pairs in doubt that are refused, and why.
+#[test]
+fn doubts() {
+    let call = field(4, &form("00 000001 0000 0020 03"));
+    let reload = |pairs: &[u8]| {
+        let lists = "01 000C 0000 0020 0090 0002 0020 0021 02 0008 0000 0022 0001 0020";
+        let front = form(&format!("{lists} 03 0008 0000000000000000"));
+        Table::reload(&[&front, &field(5, pairs), &call[..]].concat())
+    };
+    for (pairs, row) in [
+        ("0000 00", Row::ReloadDoubtsLength),
+        ("0000 0021 0000", Row::ReloadDoubtsLength),
+        ("0000 0091", Row::ReloadDoubtsRange),
+        ("0003 0020", Row::ReloadDoubtsRange),
+        ("0001 0020", Row::ReloadDoubtsRange),
+        ("0000 0022", Row::ReloadDoubtsPermanent),
+        ("0000 0021 0000 0021", Row::ReloadDoubtsTwice),
+        ("0002 0020 0000 0021", Row::ReloadDoubtsOrder),
+        ("0000 0024 0000 0023", Row::ReloadDoubtsOrder),
+        ("0000 0020", Row::ReloadDoubtsHeld),
+    ] {
+        assert_eq!(reload(&form(pairs)), Err(row), "{pairs}");
+    }
+    let many = |last: u16| -> Vec<u8> {
+        let pairs = (0x30..=last).flat_map(|vci| [[0, 0], vci.to_be_bytes()]);
+        pairs.flatten().collect()
+    };
+    let most = reload(&many(0x6f)).expect("64 pairs in doubt");
+    assert_eq!(most.doubts.len(), 64);
+    assert_eq!(reload(&many(0x70)), Err(Row::ReloadDoubtsMany));
 }

@@ -44,9 +44,9 @@ permanent pool p v = among p v (pool .permanents)
 abbrev pub permitted : Pool → ℕ → ℕ → Bool
 permitted pool p v = inRanges p v (pool .ranges) && not (permanent pool p v)
 
--- not to be assigned: a live call holds the pair, or it is permanent
-abbrev pub taken : List Entry → List Entry → ℕ → ℕ → Bool
-taken held permanents p v = among p v held || among p v permanents
+-- not to be assigned: a live call holds the pair, it is in doubt, or it is permanent
+abbrev pub taken : List Entry → List Entry → List Entry → ℕ → ℕ → Bool
+taken held doubts permanents p v = among p v held || (among p v doubts || among p v permanents)
 
 -- "lowest free permitted pair by VPCI and then VCI": the first of n VCIs from v that is not taken, or else the answer of the ranges behind
 abbrev pub scan : (ℕ → ℕ → Bool) → ℕ → ℕ → ℕ → Channel → Channel

@@ -1,9 +1,17 @@
 // Channels: permitted ranges, permanent pairs, and the lowest free pair.
 //   Channel, Entry, Range     a pair of VPCI and VCI or none, one entry of a list of them, one permitted range
 //   Pool, Held                what start permits; the pairs that live calls hold, one entry for each slot
+//   Doubts, Doubting          the pairs in doubt, ascending; what an event does to them
 //   Entry::is                 if an entry is a pair
+//   Entry::is_none            if an entry has no pair
+//   Entry::is_before          the order of entries by VPCI and then VCI
 //   Range::unused             the range without a VCI
 //   Held::holds               if a live call holds a pair
+//   Doubts::none              no pair in doubt
+//   Doubts::has               if a pair is in doubt
+//   Doubts::is_full           if there is no room for one more
+//   Doubts::begin, end        a doubt begins, ends
+//   Doubts::after             what an event makes of them
 //   Pool::is_permanent        if a pair is permanent
 //   Pool::permits             if a pair is in a range and not permanent
 //   Pool::is_taken            if a pair is not free
@@ -12,7 +20,8 @@
 //   Pool::empty               the pool without ranges and without permanent pairs
 // Nothing here has a `requires`. Assumes nothing.
 ghost use mathlib.Core.Path.{_≡_};
-ghost use Rattle.channels.specs.Channels.{isEntry, among, inRange, inRanges, permitted, taken, lowest, spansVpci, namesVpci, spannedVpci, namedVpci, knownVpci, noRange, emptyPool};
+ghost use Rattle.channels.specs.Doubts.{isNone, entryBefore, doubtsOf, noDoubts, isFull, pairEntry, sunk, closedUp, ended, doubtsAfter};
+ghost use Rattle.channels.specs.Channels.{isEntry, among, inRange, inRanges, permitted, taken, lowest, spansVpci, namesVpci, spannedVpci, namedVpci, knownVpci, noRange, noEntry, emptyPool};
 
 // A VPCI and a VCI, or none.
 pub enum Channel {
@@ -43,6 +52,19 @@ pub struct Held {
     pub entries: [Entry; 32],
 }
 
+// The pairs in doubt: ascending, and none behind them.
+pub struct Doubts {
+    pub entries: [Entry; 64],
+}
+
+// What an event does to the pairs in doubt: a doubt begins or ends, or all end.
+pub enum Doubting {
+    Keep,
+    Begin(u16, u16),
+    End(u16, u16),
+    EndAll,
+}
+
 impl Entry {
     pub fn is(self, vpci: u16, vci: u16) -> bool
         ensures { λ r. ⌜ r ≡ isEntry vpci vci self ⌝ }
@@ -66,6 +88,39 @@ impl Entry {
         match channel {
             Channel::None => false,
             Channel::Pair(p, _) => p == vpci,
+        }
+    }
+
+    pub fn is_none(self) -> bool
+        ensures { λ r. ⌜ r ≡ isNone self ⌝ }
+    {
+        let channel = self.channel;
+        match channel {
+            Channel::None => true,
+            Channel::Pair(_, _) => false,
+        }
+    }
+
+    // By VPCI and then VCI. An entry without a pair comes behind every pair.
+    pub fn is_before(self, other: Entry) -> bool
+        ensures { λ r. ⌜ r ≡ entryBefore self other ⌝ }
+    {
+        let channel = self.channel;
+        let behind = other.channel;
+        match channel {
+            Channel::None => false,
+            Channel::Pair(p, v) => match behind {
+                Channel::None => true,
+                Channel::Pair(q, w) => {
+                    if p < q {
+                        return true;
+                    }
+                    if p == q {
+                        return v < w;
+                    }
+                    false
+                }
+            },
         }
     }
 }
@@ -116,6 +171,108 @@ impl Held {
             i += 1;
         }
         false
+    }
+}
+
+impl Doubts {
+    pub fn none() -> Doubts
+        ensures { λ r. ⌜ r ≡ noDoubts ⌝ }
+    {
+        let entry = Entry {
+            channel: Channel::None,
+        };
+        let entries = [entry; 64];
+        Doubts { entries: entries }
+    }
+
+    pub fn has(self, vpci: u16, vci: u16) -> bool
+        ensures { λ r. ⌜ r ≡ among vpci vci (self .entries) ⌝ }
+    {
+        let mut i: usize = 0;
+        while i < 64 {
+            let e = self.entries[i];
+            if e.is(vpci, vci) {
+                return true;
+            }
+            i += 1;
+        }
+        false
+    }
+
+    pub fn is_full(self) -> bool
+        ensures { λ r. ⌜ r ≡ isFull (self .entries) ⌝ }
+    {
+        let mut i: usize = 0;
+        while i < 64 {
+            let e = self.entries[i];
+            if e.is_none() {
+                return false;
+            }
+            i += 1;
+        }
+        true
+    }
+
+    // The pair goes in at its place: those behind it go one further.
+    pub fn begin(self, vpci: u16, vci: u16) -> Doubts
+        ensures { λ r. ⌜ r ≡ doubtsOf (sunk (pairEntry vpci vci) (self .entries)) ⌝ }
+    {
+        let mut entries = self.entries;
+        let mut carried = Entry {
+            channel: Channel::Pair(vpci, vci),
+        };
+        for i in 0..64 {
+            let e = entries[i];
+            if e.is_before(carried) {
+                continue;
+            }
+            entries[i] = carried;
+            carried = e;
+        }
+        Doubts { entries: entries }
+    }
+
+    // The entry at a place goes out: those behind it come one nearer.
+    fn close_up(self, at: usize) -> Doubts
+        ensures { λ r. ⌜ r ≡ doubtsOf (closedUp at noEntry (self .entries)) ⌝ }
+    {
+        let mut entries = self.entries;
+        let mut carried = Entry {
+            channel: Channel::None,
+        };
+        let mut i: usize = 64;
+        while i > at {
+            i -= 1;
+            let e = entries[i];
+            entries[i] = carried;
+            carried = e;
+        }
+        Doubts { entries: entries }
+    }
+
+    pub fn end(self, vpci: u16, vci: u16) -> Doubts
+        ensures { λ r. ⌜ r ≡ doubtsOf (ended vpci vci (self .entries)) ⌝ }
+    {
+        let mut i: usize = 0;
+        while i < 64 {
+            let e = self.entries[i];
+            if e.is(vpci, vci) {
+                return self.close_up(i);
+            }
+            i += 1;
+        }
+        self
+    }
+
+    pub fn after(self, doubting: Doubting) -> Doubts
+        ensures { λ r. ⌜ r ≡ doubtsOf (doubtsAfter doubting (self .entries)) ⌝ }
+    {
+        match doubting {
+            Doubting::Keep => self,
+            Doubting::Begin(vpci, vci) => self.begin(vpci, vci),
+            Doubting::End(vpci, vci) => self.end(vpci, vci),
+            Doubting::EndAll => Doubts::none(),
+        }
     }
 }
 
@@ -174,17 +331,20 @@ impl Pool {
         false
     }
 
-    pub fn is_taken(self, held: Held, vpci: u16, vci: u16) -> bool
-        ensures { λ r. ⌜ r ≡ taken (held .entries) (self .permanents) vpci vci ⌝ }
+    pub fn is_taken(self, held: Held, doubts: Doubts, vpci: u16, vci: u16) -> bool
+        ensures { λ r. ⌜ r ≡ taken (held .entries) (doubts .entries) (self .permanents) vpci vci ⌝ }
     {
         if held.holds(vpci, vci) {
+            return true;
+        }
+        if doubts.has(vpci, vci) {
             return true;
         }
         self.is_permanent(vpci, vci)
     }
 
-    pub fn lowest_free(self, held: Held) -> Channel
-        ensures { λ r. ⌜ r ≡ lowest (taken (held .entries) (self .permanents)) (self .ranges) ⌝ }
+    pub fn lowest_free(self, held: Held, doubts: Doubts) -> Channel
+        ensures { λ r. ⌜ r ≡ lowest (taken (held .entries) (doubts .entries) (self .permanents)) (self .ranges) ⌝ }
     {
         let mut answer = Channel::None;
         let mut i: usize = 0;
@@ -195,7 +355,7 @@ impl Pool {
             let mut v = range.first as u32;
             while v <= last {
                 let vci = v as u16;
-                if !self.is_taken(held, vpci, vci) {
+                if !self.is_taken(held, doubts, vpci, vci) {
                     answer = Channel::Pair(vpci, vci);
                     break 'search;
                 }

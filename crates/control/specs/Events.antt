@@ -5,6 +5,7 @@ use Prim.Native.Nat.{ℕ, _+_}
 use mathlib.Core.Bool.{true, false, not, cond}
 use mathlib.Core.List.{List}
 use lib.ListN.{replicate}
+use Rattle.channels.specs.Doubts.{noDoubts}
 use Rattle.channels.specs.declared.Channel.{Channel}
 use Rattle.channels.specs.declared.Channel.the-variants.{None, Pair}
 use Rattle.provisioning.specs.Provisioning.{provision}
@@ -36,7 +37,12 @@ use Rattle.control.specs.Outcome.{Outcome, refusedWith, sending, accepte
 abbrev pub startOf : List ℕ → List ℕ → Started
 startOf ranges pairs = record {
   refusal = cond (provision ranges pairs .accepted) 0 9;
-  table = record { slots = record { all = replicate slotCount noSlot }; last = 0; pool = provision ranges pairs .pool };
+  table = record {
+    slots = record { all = replicate slotCount noSlot };
+    doubts = noDoubts;
+    last = 0;
+    pool = provision ranges pairs .pool;
+  };
 }
 
 -- steps 1 and 2: "ignored"; "An accepted event stores its reading, even where the message is ignored."

@@ -9,6 +9,7 @@ use mathlib.Core.Bool.{Bool, false, cond}
 use mathlib.Core.List.{List, []}
 use lib.Dec.{eqb}
 use lib.ListN.{length}
+use Rattle.channels.specs.Doubts.{doubtsOf, doubtsAfter}
 use Rattle.replies.specs.Reply.{replyOctets}
 use Rattle.effects.specs.declared.Table.{Table}
 use Rattle.effects.specs.declared.Effect.{Effect}
@@ -30,7 +31,7 @@ effectReply e = replyOctets (e .flag) (e .reference) (e .reply)
 
 -- the table afterwards
 abbrev pub stored : Table → ℕ → Effect → Table
-stored t reading e = record { slots = e .slots; last = reading; pool = t .pool }
+stored t reading e = record { slots = e .slots; doubts = doubtsOf (doubtsAfter (e .doubt) (t .doubts .entries)); last = reading; pool = t .pool }
 
 abbrev pub settled : Table → ℕ → Effect → Bool → ℕ → Answer
 settled t reading e more size = record {

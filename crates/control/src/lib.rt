@@ -15,6 +15,7 @@ use calls::Hold;
 use calls::Phase;
 use calls::Slots;
 use channels::Channel;
+use channels::Doubts;
 use effects::Effect;
 use effects::Table;
 use header::Head;
@@ -122,9 +123,12 @@ fn settle(table: Table, reading: u64, effect: Effect, more: bool, size: usize) -
 {
     let slots = effect.slots;
     let flags = effect.flags;
+    let doubt = effect.doubt;
+    let doubts = table.doubts;
     let pool = table.pool;
     let next = Table {
         slots: slots,
+        doubts: doubts.after(doubt),
         last: reading,
         pool: pool,
     };
@@ -156,8 +160,10 @@ pub fn start(ranges: &[u16], pairs: &[u16]) -> Started
     let provision = provisioning::pool_of(ranges, pairs);
     let pool = provision.pool;
     let slots = Slots::fresh();
+    let doubts = Doubts::none();
     let table = Table {
         slots: slots,
+        doubts: doubts,
         last: 0,
         pool: pool,
     };

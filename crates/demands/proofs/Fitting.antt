@@ -5,12 +5,13 @@
 -- Assumes nothing.
 use Prim.Native.Nat.{ℕ, _-_, _<_}
 use mathlib.Core.Path.{_≡_, refl}
-use mathlib.Core.Bool.{Bool, true, false, not, _&&_, _||_}
+use mathlib.Core.Bool.{Bool, true, false, not, _&&_, _||_, cond}
 use mathlib.Core.List.{List}
 use native.Mathlib.Omega.{arith}
 use lib.Dec.{eqb, ltb}
 use lib.ListN.{getD}
 use borrow.Author.Tests.{ltb-true}
+use Rattle.calls.specs.declared.Clearing.{Clearing}
 use Rattle.octets.specs.Octets.{part}
 use Rattle.contents.specs.Traffic.{member}
 use Rattle.contents.specs.Contents.{connectionIn as pairIn}
@@ -56,13 +57,13 @@ use Rattle.judging.specs.declared.Class.the-variants as class
 use Rattle.judging.specs.declared.Kind.{Kind}
 use Rattle.judging.specs.declared.Kind.the-variants as kind
 use Rattle.judging.specs.declared.Verdict.{Verdict}
-use Rattle.judging.specs.Verdict.{because, silent}
+use Rattle.judging.specs.Verdict.{because, silent, ended}
 use Rattle.judging.specs.Class.{classify}
-use Rattle.judging.specs.Judge.{releaseComplete, releaseReply, statusVerdict, statusOf, contentsVerdict, judgedAs, statusReply, noCallReply, globalReply, diagnosed, released, expire}
+use Rattle.judging.specs.Judge.{releaseComplete, releaseReply, statusVerdict, statusOf, contentsVerdict, judgedAs, statusReply, noCallReply, globalReply, diagnosed, released, expire, waiting}
 use Rattle.effects.specs.declared.Effect.{Effect}
 use Rattle.effects.specs.declared.Table.{Table}
 use Rattle.effects.specs.Restart.{pairRestart, restartEffect}
-use Rattle.effects.specs.Effects.{freePair, onPair, admitted, setupEffect, onNoCall, onHold, addressed, globalEffect, fireHold, fired}
+use Rattle.effects.specs.Effects.{freePair, onPair, admitted, setupEffect, onNoCall, onHold, addressed, globalEffect, fireHold, fired, noRoom}
 use Rattle.control.specs.Refusals.{hostCauses}
 use Rattle.control.specs.Events.{heardBy, connected, cleared}
 use Rattle.safety.specs.Tables.{slotAt}
@@ -140,15 +141,18 @@ judged-fits (class.Expected k) m h phase reading octet =
 released-fits : (reading : ℕ) (second : Bool) (n : ℕ) (expired : Bool) → n < 128 → VerdictFits (released reading second n expired)
 released-fits reading second n expired small = cause-fits n (diagnosed expired) small (diagnosed-fits expired)
 
-expire-fits : (last reading : ℕ) (network : Bool) (phase : Phase) → PhaseSound last network phase → VerdictFits (expire phase reading)
-expire-fits last reading network phase in-N3 = tt
-expire-fits last reading network phase (in-N6 d below) = tt
-expire-fits last reading network phase (in-N9 d below) = released-fits reading false 102 true (omega arith)
-expire-fits last reading network phase (in-N10 n) = tt
-expire-fits last reading network phase (by-host n k below host plain) =
-    by-cond VerdictFits (k .second) _ (released reading true (k .cause) (k .expired)) tt (released-fits reading true (k .cause) (k .expired) (host-fits (k .cause) host))
-expire-fits last reading network phase (by-timer k below cause timed) =
-    by-cond VerdictFits (k .second) _ (released reading true (k .cause) (k .expired)) tt (released-fits reading true (k .cause) (k .expired) (rw cause (omega arith)))
+second-fits : (full : Bool) (reading : ℕ) (k : Clearing) → VerdictFits (cond full (waiting reading k) (ended reply.None))
+second-fits full reading k = by-cond VerdictFits full (waiting reading k) (ended reply.None) tt tt
+
+expire-fits : (full : Bool) (last reading : ℕ) (network : Bool) (phase : Phase) → PhaseSound last network phase → VerdictFits (expire full phase reading)
+expire-fits full last reading network phase in-N3 = tt
+expire-fits full last reading network phase (in-N6 d below) = tt
+expire-fits full last reading network phase (in-N9 d below) = released-fits reading false 102 true (omega arith)
+expire-fits full last reading network phase (in-N10 n) = tt
+expire-fits full last reading network phase (by-host n k below host plain) =
+    by-cond VerdictFits (k .second) _ (released reading true (k .cause) (k .expired)) (second-fits full reading k) (released-fits reading true (k .cause) (k .expired) (host-fits (k .cause) host))
+expire-fits full last reading network phase (by-timer k below cause timed) =
+    by-cond VerdictFits (k .second) _ (released reading true (k .cause) (k .expired)) (second-fits full reading k) (released-fits reading true (k .cause) (k .expired) (rw cause (omega arith)))
 
 -- A message on no call, and on the global reference.
 
@@ -248,7 +252,7 @@ module _ (t : Table) where
     pair-writable : (r i : ℕ) (c : Channel) → r < 8388608 → freePair t ≡ c → Writable (onPair t r i c)
     pair-writable r i None small e = record { reference = small; fits = cause-fits 45 diagnostic.None (omega arith) tt }
     pair-writable r i (Pair p v) small e =
-        let n = s .numbers p v ((free-permitted (heldOf (t .slots .all) .entries) (t .pool) p v e) .0) in
+        let n = s .numbers p v ((free-permitted (heldOf (t .slots .all) .entries) (t .doubts .entries) (t .pool) p v e) .0) in
         record { reference = small; fits = record { vpci = omega (arith, n .0); vci = omega (arith, n .2) } }
 
     admitted-writable : (r : ℕ) (f : Found) → r < 8388608 → Writable (admitted t r f)
@@ -289,7 +293,7 @@ module _ (t : Table) where
       fire-writable : (reading i : ℕ) (k : Hold) → slotAt t i .hold ≡ k → Writable (fireHold t reading i k)
       fire-writable reading i Empty e = record { reference = omega arith; fits = tt }
       fire-writable reading i (Live c) e =
-          record { reference = f i c e; fits = expire-fits (t .last) reading (c .network) (c .phase) ((s .calls-sound i c e) .phase-sound) }
+          record { reference = f i c e; fits = expire-fits (noRoom t) (t .last) reading (c .network) (c .phase) ((s .calls-sound i c e) .phase-sound) }
 
       pub fired-writable : (reading : ℕ) (p : Found) → Writable (fired t reading p)
       fired-writable reading Nothing = record { reference = omega arith; fits = tt }

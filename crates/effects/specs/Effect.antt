@@ -4,13 +4,16 @@
 --   quiet, replying        nothing happens; a reply alone
 --   onSlot                 a verdict performed on the call of one slot
 --   assigned               a call put into an empty slot
---   afterGone              some calls are gone
+--   afterGone              some calls are gone, and doubts may end
+--   doubting               what an effect does to the doubts
 -- Assumes nothing.
 use Prim.Native.Nat.{ℕ}
 use mathlib.Core.Bool.{Bool, true, false, cond}
 use lib.Dec.{eqb}
 use lib.ListN.{getD, set, replicate}
 use Rattle.channels.specs.Some.{someOf}
+use Rattle.channels.specs.declared.Doubting.{Doubting}
+use Rattle.channels.specs.declared.Doubting.the-variants.{Keep}
 use Rattle.calls.specs.declared.Phase.{Phase}
 use Rattle.calls.specs.declared.Call.{Call}
 use Rattle.calls.specs.declared.Hold.{Hold}
@@ -52,7 +55,7 @@ abbrev pub flagged : ℕ → ℕ → Flags
 flagged notice i = cond (eqb notice 0) noFlags (flagsAt i)
 
 abbrev pub replying : Slots → Bool → ℕ → Reply → Effect
-replying ss flag r answer = record { slots = ss; flag = flag; reference = r; reply = answer; notice = 0; flags = noFlags }
+replying ss flag r answer = record { slots = ss; doubt = Keep; flag = flag; reference = r; reply = answer; notice = 0; flags = noFlags }
 
 abbrev pub quiet : Slots → Effect
 quiet ss = replying ss false 0 reply.None
@@ -61,6 +64,7 @@ quiet ss = replying ss false 0 reply.None
 abbrev pub onSlot : Slots → ℕ → Bool → ℕ → Verdict → Effect
 onSlot ss i flag r v = record {
   slots = record { all = set (ss .all) i (fated (v .fate) (getD (ss .all) i noSlot)) };
+  doubt = Keep;
   flag = flag;
   reference = r;
   reply = v .reply;
@@ -72,6 +76,7 @@ onSlot ss i flag r v = record {
 abbrev pub assigned : Slots → ℕ → Bool → ℕ → Call → Reply → Effect
 assigned ss i flag r c answer = record {
   slots = record { all = set (ss .all) i (record { hold = Live c }) };
+  doubt = Keep;
   flag = flag;
   reference = r;
   reply = answer;
@@ -86,5 +91,25 @@ isSet b = b
 abbrev pub goneNotice : Flags → ℕ
 goneNotice f = cond (someOf isSet (f .on)) 3 0
 
-abbrev pub afterGone : Gone → Bool → Reply → Effect
-afterGone g flag answer = record { slots = g .slots; flag = flag; reference = 0; reply = answer; notice = goneNotice (g .flags); flags = g .flags }
+abbrev pub afterGone : Gone → Doubting → Bool → Reply → Effect
+afterGone g doubt flag answer = record {
+  slots = g .slots;
+  doubt = doubt;
+  flag = flag;
+  reference = 0;
+  reply = answer;
+  notice = goneNotice (g .flags);
+  flags = g .flags;
+}
+
+-- an effect with what it does to the doubts
+abbrev pub doubting : Doubting → Effect → Effect
+doubting doubt x = record {
+  slots = x .slots;
+  doubt = doubt;
+  flag = x .flag;
+  reference = x .reference;
+  reply = x .reply;
+  notice = x .notice;
+  flags = x .flags;
+}

@@ -3,13 +3,17 @@
 --   admitted, setupEffect  SETUP on no call
 --   globalEffect           a message on the global reference
 --   messageEffect          a message that passed the header checks
+--   noRoom, doubtOf        if there is room for a doubt, and the doubt that a timer begins
 --   tickEffect             the timer that fires
 -- Assumes nothing.
 use Prim.Native.Nat.{ℕ}
-use mathlib.Core.Bool.{true, false, not, cond, _&&_}
+use mathlib.Core.Bool.{Bool, true, false, not, cond, _&&_}
 use mathlib.Core.List.{List, map}
 use lib.Dec.{eqb}
 use lib.ListN.{getD}
+use Rattle.channels.specs.Doubts.{isFull}
+use Rattle.channels.specs.declared.Doubting.{Doubting}
+use Rattle.channels.specs.declared.Doubting.the-variants.{Keep, Begin}
 use Rattle.channels.specs.declared.Channel.{Channel}
 use Rattle.channels.specs.declared.Channel.the-variants.{None, Pair}
 use Rattle.channels.specs.Channels.{taken, lowest}
@@ -29,15 +33,16 @@ use Rattle.setup.specs.declared.Admission.{Admission}
 use Rattle.setup.specs.declared.Admission.the-variants.{Admitted, Refused}
 use Rattle.setup.specs.Setup.{admission}
 use Rattle.judging.specs.Verdict.{plainCause}
-use Rattle.judging.specs.Judge.{judge, noCallReply, globalReply, expire}
+use Rattle.judging.specs.Judge.{judge, noCallReply, globalReply, expire, lastT308}
 use Rattle.effects.specs.declared.Effect.{Effect}
 use Rattle.effects.specs.declared.Table.{Table}
-use Rattle.effects.specs.Effect.{quiet, replying, onSlot, assigned}
+use Rattle.effects.specs.Effect.{quiet, replying, onSlot, assigned, doubting}
 use Rattle.effects.specs.Restart.{restartEffect}
 
--- "lowest free permitted pair by VPCI and then VCI": the lowest of a range that is neither held by a live call nor permanent
+-- "lowest free permitted pair by VPCI and then VCI": the lowest of a range that is neither held by a live call, nor in doubt, nor
+-- permanent (document 02, R-2)
 abbrev pub freePair : Table → Channel
-freePair t = lowest (taken (map entryOf (t .slots .all)) (t .pool .permanents)) (t .pool .ranges)
+freePair t = lowest (taken (map entryOf (t .slots .all)) (t .doubts .entries) (t .pool .permanents)) (t .pool .ranges)
 
 -- "Otherwise: lowest empty slot, lowest free permitted pair .., CALL PROCEEDING with its 5A, state N3, notice 1."
 abbrev pub userCall : ℕ → ℕ → ℕ → Call
@@ -86,10 +91,18 @@ messageEffect t m h reading =
     (globalEffect t m h)
     (addressed t m h reading (place (isCall (h .flag) (h .reference)) (t .slots .all)))
 
+-- document 02, R-2: "on the second T308 expiry .. the pair is in doubt, not free; the slot is empty, notice 3"; with 64 it waits
+abbrev pub noRoom : Table → Bool
+noRoom t = isFull (t .doubts .entries)
+
+abbrev pub doubtOf : Bool → Call → Doubting
+doubtOf full c = cond (lastT308 (c .phase) && not full) (Begin (c .vpci) (c .vci)) Keep
+
 -- "fires at most one due timer ..; with none due only the reading is stored"
 abbrev pub fireHold : Table → ℕ → ℕ → Hold → Effect
 fireHold t reading i Empty = quiet (t .slots)
-fireHold t reading i (Live c) = onSlot (t .slots) i (not (c .network)) (c .reference) (expire (c .phase) reading)
+fireHold t reading i (Live c) =
+    doubting (doubtOf (noRoom t) c) (onSlot (t .slots) i (not (c .network)) (c .reference) (expire (noRoom t) (c .phase) reading))
 
 abbrev pub fired : Table → ℕ → Found → Effect
 fired t reading Nothing = quiet (t .slots)

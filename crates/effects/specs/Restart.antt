@@ -7,6 +7,7 @@ use Prim.Native.Nat.{ℕ}
 use mathlib.Core.Bool.{Bool, cond, _||_}
 use lib.Dec.{eqb, ltb}
 use Rattle.channels.specs.Channels.{permanent, knownVpci}
+use Rattle.channels.specs.declared.Doubting.the-variants.{End, EndAll}
 use Rattle.calls.specs.Calls.{isLive, holdsPair, gone}
 use Rattle.elements.specs.declared.ConnectionRead.{ConnectionRead}
 use Rattle.elements.specs.declared.ConnectionRead.the-variants as connectionRead
@@ -34,12 +35,13 @@ pairRestart t flag (connectionRead.Pair p v) =
     cond (knownVpci (t .pool) p)
     (cond (ltb v 32 || permanent (t .pool) p v)
     (restartStatus t flag 82 (diagnostic.Pair p v))
-    (afterGone (gone (holdsPair p v) (t .slots .all)) flag (reply.RestartAcknowledge p v)))
+    (afterGone (gone (holdsPair p v) (t .slots .all)) (End p v) flag (reply.RestartAcknowledge p v)))
     (restartStatus t flag 100 (diagnostic.Octet 0x5A))
 
+-- document 02, R-2: "A user's RESTART that names it, or all, ends the doubt."
 -- "79 absent, STATUS 96; unreadable, STATUS 100; both with diagnostic 79. .. or all calls for 82 (5A not looked at), are gone"
 abbrev pub restartEffect : Table → Bool → RestartRead → ConnectionRead → Effect
 restartEffect t flag restartRead.Absent connection = restartStatus t flag 96 (diagnostic.Octet 0x79)
 restartEffect t flag restartRead.Unreadable connection = restartStatus t flag 100 (diagnostic.Octet 0x79)
 restartEffect t flag (restartRead.Class c) connection =
-    cond (eqb c 0x82) (afterGone (gone isLive (t .slots .all)) flag reply.RestartAcknowledgeAll) (pairRestart t flag connection)
+    cond (eqb c 0x82) (afterGone (gone isLive (t .slots .all)) EndAll flag reply.RestartAcknowledgeAll) (pairRestart t flag connection)

@@ -1,6 +1,6 @@
 // What an accepted event does to the table: performed once, by value.
-//   Table                    the slots, the last accepted reading and the pool
-//   Effect                   the slots afterwards, the reply with its flag and call reference, the notice and the flags
+//   Table                    the slots, the pairs in doubt, the last accepted reading and the pool
+//   Effect                   the slots afterwards, what becomes of the doubts, the reply with its flag and call reference, the notice and the flags
 //   Table::on_slot           a verdict on the call of one slot
 //   Table::assign            a call put into an empty slot
 //   Table::free_pair         the lowest free permitted pair
@@ -16,6 +16,8 @@ use calls::Phase;
 use calls::Slot;
 use calls::Slots;
 use channels::Channel;
+use channels::Doubting;
+use channels::Doubts;
 use channels::Pool;
 use elements::ConnectionRead;
 use elements::RestartRead;
@@ -35,15 +37,16 @@ ghost use Rattle.channels.specs.Some.{someOf};
 ghost use Rattle.channels.specs.Channels.{permanent};
 ghost use Rattle.calls.specs.First.{place};
 ghost use Rattle.calls.specs.Calls.{isEmpty};
-ghost use Rattle.effects.specs.Effect.{turnedHold, fated, flagged, replying, quiet, onSlot, assigned, isSet, goneNotice, afterGone};
+ghost use Rattle.effects.specs.Effect.{turnedHold, fated, flagged, replying, quiet, onSlot, assigned, isSet, goneNotice, afterGone, doubting};
 ghost use Rattle.effects.specs.Restart.{restartStatus, pairRestart, restartEffect};
-ghost use Rattle.effects.specs.Effects.{freePair, onPair, admitted, setupEffect, onNoCall, addressed, globalEffect, messageEffect, fired, tickEffect};
+ghost use Rattle.effects.specs.Effects.{freePair, doubtOf, onPair, admitted, setupEffect, onNoCall, addressed, globalEffect, messageEffect, fired, tickEffect};
 ghost use Rattle.elements.specs.Values.{connectionIn, restartIn};
 ghost use Rattle.setup.specs.Setup.{admission};
 
-// The table: the slots of calls, the last accepted reading and the pool of channels.
+// The table: the slots of calls, the pairs in doubt, the last accepted reading and the pool of channels.
 pub struct Table {
     pub slots: Slots,
+    pub doubts: Doubts,
     pub last: u64,
     pub pool: Pool,
 }
@@ -51,6 +54,7 @@ pub struct Table {
 // What an event does. The reply carries this flag and call reference.
 pub struct Effect {
     pub slots: Slots,
+    pub doubt: Doubting,
     pub flag: bool,
     pub reference: u32,
     pub reply: Reply,
@@ -100,6 +104,7 @@ pub fn replying(slots: Slots, flag: bool, reference: u32, reply: Reply) -> Effec
 {
     Effect {
         slots: slots,
+        doubt: Doubting::Keep,
         flag: flag,
         reference: reference,
         reply: reply,
@@ -126,6 +131,7 @@ pub fn on_slot(slots: Slots, i: usize, flag: bool, reference: u32, verdict: Verd
     let slot = suffer(fate, slots.slot_at(i));
     Effect {
         slots: slots.with_slot(i, slot),
+        doubt: Doubting::Keep,
         flag: flag,
         reference: reference,
         reply: reply,
@@ -150,6 +156,7 @@ pub fn assign(
     let slot = Slot { hold: live };
     Effect {
         slots: slots.with_slot(i, slot),
+        doubt: Doubting::Keep,
         flag: flag,
         reference: reference,
         reply: reply,
@@ -182,18 +189,51 @@ fn gone_notice(flags: Flags) -> u8
     0
 }
 
-// Some calls are gone, for a RESTART.
-fn after_gone(gone: Gone, flag: bool, reply: Reply) -> Effect
-    ensures { λ r. ⌜ r ≡ afterGone gone flag reply ⌝ }
+// Some calls are gone and doubts end, for a RESTART.
+fn after_gone(gone: Gone, doubt: Doubting, flag: bool, reply: Reply) -> Effect
+    ensures { λ r. ⌜ r ≡ afterGone gone doubt flag reply ⌝ }
 {
     let slots = gone.slots;
     let flags = gone.flags;
     Effect {
         slots: slots,
+        doubt: doubt,
         flag: flag,
         reference: 0,
         reply: reply,
         notice: gone_notice(flags),
+        flags: flags,
+    }
+}
+
+// The doubt that a timer begins: of a call whose second T308 expired, where there is room.
+fn doubt_of(full: bool, call: Call) -> Doubting
+    ensures { λ r. ⌜ r ≡ doubtOf full call ⌝ }
+{
+    let phase = call.phase;
+    if judging::is_last_t308(phase) {
+        if full {
+            return Doubting::Keep;
+        }
+        return Doubting::Begin(call.vpci, call.vci);
+    }
+    Doubting::Keep
+}
+
+// An effect with what it does to the doubts.
+fn doubting(doubt: Doubting, effect: Effect) -> Effect
+    ensures { λ r. ⌜ r ≡ doubting doubt effect ⌝ }
+{
+    let slots = effect.slots;
+    let reply = effect.reply;
+    let flags = effect.flags;
+    Effect {
+        slots: slots,
+        doubt: doubt,
+        flag: effect.flag,
+        reference: effect.reference,
+        reply: reply,
+        notice: effect.notice,
         flags: flags,
     }
 }
@@ -243,6 +283,7 @@ impl Table {
             }
             return after_gone(
                 slots.clear_pair(vpci, vci),
+                Doubting::End(vpci, vci),
                 flag,
                 Reply::RestartAcknowledge(vpci, vci),
             );
@@ -266,7 +307,12 @@ impl Table {
     {
         let slots = self.slots;
         if class == 0x82 {
-            return after_gone(slots.clear_all(), flag, Reply::RestartAcknowledgeAll);
+            return after_gone(
+                slots.clear_all(),
+                Doubting::EndAll,
+                flag,
+                Reply::RestartAcknowledgeAll,
+            );
         }
         self.restart_connection(m, flag)
     }
@@ -286,8 +332,9 @@ impl Table {
         ensures { λ r. ⌜ r ≡ freePair self ⌝ }
     {
         let slots = self.slots;
+        let doubts = self.doubts;
         let pool = self.pool;
-        pool.lowest_free(slots.held())
+        pool.lowest_free(slots.held(), doubts)
     }
 
     fn refuse_setup(self, reference: u32, why: Cause) -> Effect
@@ -420,14 +467,17 @@ impl Table {
         ensures { λ r. ⌜ r ≡ fired self reading (Found.At i) ⌝ }
     {
         let slots = self.slots;
+        let doubts = self.doubts;
         let slot = slots.slot_at(i);
         let hold = slot.hold;
         match hold {
             Hold::Empty => quiet(slots),
             Hold::Live(call) => {
                 let phase = call.phase;
-                let verdict = judging::expire(phase, reading);
-                on_slot(slots, i, !call.network, call.reference, verdict)
+                let full = doubts.is_full();
+                let verdict = judging::expire(phase, reading, full);
+                let effect = on_slot(slots, i, !call.network, call.reference, verdict);
+                doubting(doubt_of(full, call), effect)
             }
         }
     }

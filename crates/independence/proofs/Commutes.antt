@@ -23,7 +23,7 @@ use Rattle.header.specs.declared.Header.{Header}
 use Rattle.effects.specs.declared.Table.{Table}
 use Rattle.effects.specs.Effect.{fated}
 use Rattle.independence.specs.Independence.{Heard, hear, AcceptedIn, headed, Qualifies, IsSetup, KeepsOrder, within-reference, setup-before, before-setup, easy}
-use Rattle.independence.proofs.Deeds.{Deed, turns, fills, given, reaches, changed, perform, sight, decide, decision, mine}
+use Rattle.independence.proofs.Deeds.{Deed, turns, fills, given, reaches, changed, perform, sight, decide, decision, mine, Ground, groundOf, freeOn}
 use Rattle.independence.proofs.Hearing.{afterDeed, does, takes, hears, still-accepted, refusalOf, refusedWith}
 use Rattle.independence.proofs.Local.{Of, of-turn, of-fill, decide-of, Turning, turn, decide-turning, decide-alone, Other, other-call, calm-empty, calm-entries}
 use Rattle.independence.proofs.Easy.{CalmDeed, calm, easy-calm, easy-not-setup}
@@ -33,27 +33,27 @@ pub record Apart (p q : Slot → Bool) (d e : Deed) : Type 0 where
   pub left : Off (reaches q e) (reaches p d) (changed d)
   pub right : Off (reaches p d) (reaches q e) (changed e)
 
-module _ (reading : ℕ) (p q : Slot → Bool) (a b : Pool → List Slot → Deed) (t : Table) where
+module _ (reading : ℕ) (p q : Slot → Bool) (a b : Ground → List Slot → Deed) (t : Table) where
   abbrev slots-of : List Slot
   slots-of = t .slots .all
 
   abbrev one : Deed
-  one = a (t .pool) slots-of
+  one = a (groundOf t) slots-of
 
   abbrev two : Deed
-  two = b (t .pool) slots-of
+  two = b (groundOf t) slots-of
 
-  pub deeds-commute : Apart p q one two → a (t .pool) (perform q two slots-of) ≡ one → b (t .pool) (perform p one slots-of) ≡ two
-      → Commute (λ (x : Table). afterDeed reading p x (a (x .pool) (x .slots .all))) (λ (x : Table). afterDeed reading q x (b (x .pool) (x .slots .all))) t
+  pub deeds-commute : Apart p q one two → a (groundOf t) (perform q two slots-of) ≡ one → b (groundOf t) (perform p one slots-of) ≡ two
+      → Commute (λ (x : Table). afterDeed reading p x (a (groundOf x) (x .slots .all))) (λ (x : Table). afterDeed reading q x (b (groundOf x) (x .slots .all))) t
   deeds-commute apart same-a same-b =
-      let met : perform q (b (t .pool) (perform p one slots-of)) (perform p one slots-of) ≡ perform p (a (t .pool) (perform q two slots-of)) (perform q two slots-of)
+      let met : perform q (b (groundOf t) (perform p one slots-of)) (perform p one slots-of) ≡ perform p (a (groundOf t) (perform q two slots-of)) (perform q two slots-of)
       = ap (λ (d : Deed). perform q d (perform p one slots-of)) same-b
       ∙ sym (upd-comm (reaches p one) (reaches q two) (changed one) (changed two) (apart .left) (apart .right) slots-of)
       ∙ ap (λ (d : Deed). perform p d (perform q two slots-of)) (sym same-a) in
       record {
         first = ap given (sym same-a);
         second = ap given (sym same-b);
-        both = λ i. record { slots = record { all = met i }; last = reading; pool = t .pool };
+        both = λ i. record { slots = record { all = met i }; doubts = t .doubts; last = reading; pool = t .pool };
       }
 
 other-sym : (h k : Header) → Other h k → Other k h
@@ -73,49 +73,49 @@ easy-apart h k d e other (of-fill g p v user) (calm i {f = j} c) = record {
 }
 
 -- a message on another reference sees its call where it was, and as it was
-sees-call : (h k : Header) (pool : Pool) (d : Deed) (ss : List Slot) → Other h k → Of k d
-    → sight (mine h) pool (perform (mine k) d ss) .call ≡ sight (mine h) pool ss .call
-sees-call h k pool d ss other of = place-after (reaches (mine k) d) (mine h) (changed d) (other-call h k d other of) ss
+sees-call : (h k : Header) (ground : Ground) (d : Deed) (ss : List Slot) → Other h k → Of k d
+    → sight (mine h) ground (perform (mine k) d ss) .call ≡ sight (mine h) ground ss .call
+sees-call h k ground d ss other of = place-after (reaches (mine k) d) (mine h) (changed d) (other-call h k d other of) ss
 
-sees-slot : (h k : Header) (pool : Pool) (d : Deed) (ss : List Slot) → Other h k → Of k d
-    → sight (mine h) pool (perform (mine k) d ss) .slot ≡ sight (mine h) pool ss .slot
-sees-slot h k pool d ss other of = first-after (reaches (mine k) d) (mine h) (changed d) (other-call h k d other of) noSlot ss
+sees-slot : (h k : Header) (ground : Ground) (d : Deed) (ss : List Slot) → Other h k → Of k d
+    → sight (mine h) ground (perform (mine k) d ss) .slot ≡ sight (mine h) ground ss .slot
+sees-slot h k ground d ss other of = first-after (reaches (mine k) d) (mine h) (changed d) (other-call h k d other of) noSlot ss
 
 -- after a deed that ends no call it sees the empty slots and the pairs as they were, too
-sees-all : (h k : Header) (pool : Pool) (d : Deed) (ss : List Slot) → Other h k → CalmDeed d → sight (mine h) pool (perform (mine k) d ss) ≡ sight (mine h) pool ss
-sees-all h k pool d ss other (calm g {f} c) =
+sees-all : (h k : Header) (ground : Ground) (d : Deed) (ss : List Slot) → Other h k → CalmDeed d → sight (mine h) ground (perform (mine k) d ss) ≡ sight (mine h) ground ss
+sees-all h k ground d ss other (calm g {f} c) =
     λ i.
     record {
-      call = sees-call h k pool (turns g f) ss other (of-turn g f) i;
-      slot = sees-slot h k pool (turns g f) ss other (of-turn g f) i;
+      call = sees-call h k ground (turns g f) ss other (of-turn g f) i;
+      slot = sees-slot h k ground (turns g f) ss other (of-turn g f) i;
       empty = place-after (mine k) isEmpty (fated f) (calm-empty k f c) ss i;
-      pair = lowest (taken (calm-entries (mine k) f ss c i) (pool .permanents)) (pool .ranges);
+      pair = freeOn ground (calm-entries (mine k) f ss c i);
     }
 
 -- what is decided of a message other than SETUP is decided of it after a message on another reference, too
-same-decision : (reading : ℕ) (m n : List ℕ) (h k : Header) (pool : Pool) (ss : List Slot) → Other h k → eqb (h .kind) 0x05 ≡ false
-    → decision m h reading pool (perform (mine k) (decision n k reading pool ss) ss) ≡ decision m h reading pool ss
-same-decision reading m n h k pool ss other e =
-    let of = decide-of n k reading (sight (mine k) pool ss) in
-    decide-alone m h reading _ _ e (sees-call h k pool (decision n k reading pool ss) ss other of) (sees-slot h k pool (decision n k reading pool ss) ss other of)
+same-decision : (reading : ℕ) (m n : List ℕ) (h k : Header) (ground : Ground) (ss : List Slot) → Other h k → eqb (h .kind) 0x05 ≡ false
+    → decision m h reading ground (perform (mine k) (decision n k reading ground ss) ss) ≡ decision m h reading ground ss
+same-decision reading m n h k ground ss other e =
+    let of = decide-of n k reading (sight (mine k) ground ss) in
+    decide-alone m h reading _ _ e (sees-call h k ground (decision n k reading ground ss) ss other of) (sees-slot h k ground (decision n k reading ground ss) ss other of)
 
 module _ (reading : ℕ) (m n : List ℕ) (h k : Header) (t : Table) (other : Other h k) where
   pub turns-commute : eqb (h .kind) 0x05 ≡ false → eqb (k .kind) 0x05 ≡ false → Commute (does reading m h) (does reading n k) t
   turns-commute e f =
       deeds-commute reading (mine h) (mine k) (decision m h reading) (decision n k reading) t
       (turns-apart h k _ _ other
-      (decide-turning m h reading (sight (mine h) (t .pool) (t .slots .all)) e)
-      (decide-turning n k reading (sight (mine k) (t .pool) (t .slots .all)) f))
-      (same-decision reading m n h k (t .pool) (t .slots .all) other e)
-      (same-decision reading n m k h (t .pool) (t .slots .all) (other-sym h k other) f)
+      (decide-turning m h reading (sight (mine h) (groundOf t) (t .slots .all)) e)
+      (decide-turning n k reading (sight (mine k) (groundOf t) (t .slots .all)) f))
+      (same-decision reading m n h k (groundOf t) (t .slots .all) other e)
+      (same-decision reading n m k h (groundOf t) (t .slots .all) (other-sym h k other) f)
 
   pub easy-commutes : easy (k .kind) ≡ true → Commute (does reading m h) (does reading n k) t
   easy-commutes e =
-      let calm-deed = easy-calm n k reading (sight (mine k) (t .pool) (t .slots .all)) e in
+      let calm-deed = easy-calm n k reading (sight (mine k) (groundOf t) (t .slots .all)) e in
       deeds-commute reading (mine h) (mine k) (decision m h reading) (decision n k reading) t
-      (easy-apart h k _ _ other (decide-of m h reading (sight (mine h) (t .pool) (t .slots .all))) calm-deed)
-      (ap (decide m h reading) (sees-all h k (t .pool) (decision n k reading (t .pool) (t .slots .all)) (t .slots .all) other calm-deed))
-      (same-decision reading n m k h (t .pool) (t .slots .all) (other-sym h k other) (easy-not-setup (k .kind) e))
+      (easy-apart h k _ _ other (decide-of m h reading (sight (mine h) (groundOf t) (t .slots .all))) calm-deed)
+      (ap (decide m h reading) (sees-all h k (groundOf t) (decision n k reading (groundOf t) (t .slots .all)) (t .slots .all) other calm-deed))
+      (same-decision reading n m k h (groundOf t) (t .slots .all) (other-sym h k other) (easy-not-setup (k .kind) e))
 
 -- messages that need not keep their order name different calls
 other-reference : (m n : Heard) → ¬ KeepsOrder m n → Other (headed m) (headed n)

@@ -8,6 +8,8 @@ use Prim.Native.Nat.{ℕ}
 use mathlib.Core.Bool.{Bool, true, false, not, cond, _&&_}
 use mathlib.Core.List.{List, map}
 use lib.Dec.{eqb}
+use Rattle.effects.specs.declared.Table.{Table}
+use Rattle.channels.specs.declared.Entry.{Entry}
 use Rattle.channels.specs.declared.Channel.{Channel}
 use Rattle.channels.specs.declared.Channel.the-variants.{None, Pair}
 use Rattle.channels.specs.declared.Pool.{Pool}
@@ -66,12 +68,23 @@ pub record Sight : Type 0 where
   pub empty : Found
   pub pair : Channel
 
-abbrev pub sight : (Slot → Bool) → Pool → List Slot → Sight
-sight own pool ss = record {
+-- what a message on a call leaves as it is: the pairs in doubt, and the pool
+pub record Ground : Type 0 where
+  pub doubts : List Entry
+  pub pool : Pool
+
+abbrev pub groundOf : Table → Ground
+groundOf t = record { doubts = t .doubts .entries; pool = t .pool }
+
+abbrev pub freeOn : Ground → List Entry → Channel
+freeOn ground held = lowest (taken held (ground .doubts) (ground .pool .permanents)) (ground .pool .ranges)
+
+abbrev pub sight : (Slot → Bool) → Ground → List Slot → Sight
+sight own ground ss = record {
   call = place own ss;
   slot = first own noSlot ss;
   empty = place isEmpty ss;
-  pair = lowest (taken (map entryOf ss) (pool .permanents)) (pool .ranges);
+  pair = freeOn ground (map entryOf ss);
 }
 
 -- a reply alone
@@ -122,5 +135,5 @@ decide m h reading see = decideAt m h reading see (see .call)
 abbrev pub mine : Header → Slot → Bool
 mine h = isCall (h .flag) (h .reference)
 
-abbrev pub decision : List ℕ → Header → ℕ → Pool → List Slot → Deed
-decision m h reading pool ss = decide m h reading (sight (mine h) pool ss)
+abbrev pub decision : List ℕ → Header → ℕ → Ground → List Slot → Deed
+decision m h reading ground ss = decide m h reading (sight (mine h) ground ss)

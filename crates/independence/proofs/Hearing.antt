@@ -13,6 +13,8 @@ use lib.Dec.{eqb, ltb}
 use lib.ListN.{getD}
 use native.Mathlib.Nat.{le-refl}
 use borrow.Author.Tests.{ne-eqb, le-ltb}
+use Rattle.channels.specs.declared.Doubting.the-variants.{Keep}
+use Rattle.channels.specs.Doubts.{doubtsOf, doubtsAfter}
 use Rattle.channels.specs.declared.Channel.{Channel}
 use Rattle.channels.specs.declared.Channel.the-variants.{None, Pair}
 use Rattle.channels.proofs.Cases.{by-test}
@@ -43,7 +45,7 @@ use Rattle.control.specs.Refusals.{orElse, sizeRefusal, messageRefusal}
 use Rattle.control.specs.Outcome.{Outcome, acceptedAs, unlessRefused}
 use Rattle.control.specs.Events.{heardBy}
 use Rattle.independence.specs.Independence.{Heard, Given, givenBy, hear, AcceptedIn, headed, Qualifies}
-use Rattle.independence.proofs.Deeds.{Deed, given, perform, sight, still, onPair, admit, setUp, onNoCall, turned, onHold, decideAt, decide, decision, mine}
+use Rattle.independence.proofs.Deeds.{Deed, given, perform, sight, still, onPair, admit, setUp, onNoCall, turned, onHold, decideAt, decide, decision, mine, groundOf}
 
 pub upd-stays : (own : Slot → Bool) (ss : List Slot) → upd own (fated fate.Stay) ss ≡ ss
 upd-stays own [] = refl
@@ -52,6 +54,7 @@ upd-stays own (s ∷ ss) = by-test (own s) (λ e. rw e) (λ e. rw e (ap (λ (l :
 pub record Matches (t : Table) (own : Slot → Bool) (e : Effect) (d : Deed) : Type 0 where
   pub answer : givenBy (acceptedAs t 0 e) ≡ given d
   pub slots : e .slots .all ≡ perform own d (t .slots .all)
+  pub doubt : e .doubt ≡ Keep
 
 module _ (t : Table) (own : Slot → Bool) where
   matches-cond : (b : Bool) (e e′ : Effect) (d d′ : Deed) → Matches t own e d → Matches t own e′ d′ → Matches t own (cond b e e′) (cond b d d′)
@@ -59,11 +62,11 @@ module _ (t : Table) (own : Slot → Bool) where
   matches-cond false e e′ d d′ x y = y
 
   still-matches : (flag : Bool) (r : ℕ) (a : Reply) → Matches t own (replying (t .slots) flag r a) (still flag r a)
-  still-matches flag r a = record { answer = refl; slots = sym (upd-stays own (t .slots .all)) }
+  still-matches flag r a = record { answer = refl; slots = sym (upd-stays own (t .slots .all)); doubt = refl }
 
   pair-matches : (r i : ℕ) (c : Channel) → place isEmpty (t .slots .all) ≡ At i → Matches t own (effects.onPair t r i c) (onPair r i c)
   pair-matches r i None e = still-matches true r _
-  pair-matches r i (Pair p v) e = record { answer = refl; slots = sym ((placed isEmpty noSlot (t .slots .all) i e) .changed _) }
+  pair-matches r i (Pair p v) e = record { answer = refl; slots = sym ((placed isEmpty noSlot (t .slots .all) i e) .changed _); doubt = refl }
 
   admit-matches : (r : ℕ) (f : Found) → place isEmpty (t .slots .all) ≡ f → Matches t own (effects.admitted t r f) (admit r f (effects.freePair t))
   admit-matches r Nothing e = still-matches true r _
@@ -80,21 +83,21 @@ module _ (t : Table) (own : Slot → Bool) where
       (still-matches (not (h .flag)) (h .reference) _)
 
   slot-matches : (h : Header) (i : ℕ) (v : Verdict) → place own (t .slots .all) ≡ At i → Matches t own (onSlot (t .slots) i (not (h .flag)) (h .reference) v) (turned h i v)
-  slot-matches h i v e = record { answer = refl; slots = sym ((placed own noSlot (t .slots .all) i e) .changed (fated (v .fate))) }
+  slot-matches h i v e = record { answer = refl; slots = sym ((placed own noSlot (t .slots .all) i e) .changed (fated (v .fate))); doubt = refl }
 
   hold-matches : (m : List ℕ) (h : Header) (reading i : ℕ) (k : Hold) → place own (t .slots .all) ≡ At i → Matches t own (effects.onHold t m h reading i k) (onHold m h reading i k)
   hold-matches m h reading i Empty e = still-matches false 0 _
   hold-matches m h reading i (Live c) e = slot-matches h i (judge m h (c .phase) reading) e
 
   found-matches : (m : List ℕ) (h : Header) (reading : ℕ) (f : Found) → place own (t .slots .all) ≡ f
-      → Matches t own (effects.addressed t m h reading f) (decideAt m h reading (sight own (t .pool) (t .slots .all)) f)
+      → Matches t own (effects.addressed t m h reading f) (decideAt m h reading (sight own (groundOf t) (t .slots .all)) f)
   found-matches m h reading Nothing e = no-call-matches m h
   found-matches m h reading (At i) e =
       let p = placed own noSlot (t .slots .all) i e in
       rw (p .found) (hold-matches m h reading i (getD (t .slots .all) i noSlot .hold) e)
 
   pub addressed-matches : (m : List ℕ) (h : Header) (reading : ℕ)
-      → Matches t own (effects.addressed t m h reading (place own (t .slots .all))) (decide m h reading (sight own (t .pool) (t .slots .all)))
+      → Matches t own (effects.addressed t m h reading (place own (t .slots .all))) (decide m h reading (sight own (groundOf t) (t .slots .all)))
   addressed-matches m h reading = found-matches m h reading (place own (t .slots .all)) refl
 
 -- refusals 1, 2 and 5
@@ -109,16 +112,19 @@ refusedWith n = record { refusal = n; reply = []; notice = 0; flags = noFlags }
 
 -- the answer of a deed, and the table after it
 abbrev pub afterDeed : ℕ → (Slot → Bool) → Table → Deed → Given × Table
-afterDeed reading own t d = (given d, record { slots = record { all = perform own d (t .slots .all) }; last = reading; pool = t .pool })
+afterDeed reading own t d = (given d, record { slots = record { all = perform own d (t .slots .all) }; doubts = t .doubts; last = reading; pool = t .pool })
 
 abbrev pub does : ℕ → List ℕ → Header → Table → Given × Table
-does reading m h t = afterDeed reading (mine h) t (decision m h reading (t .pool) (t .slots .all))
+does reading m h t = afterDeed reading (mine h) t (decision m h reading (groundOf t) (t .slots .all))
 
 abbrev read : Outcome → Given × Table
 read o = (givenBy o, o .answer .table)
 
 matched : (t : Table) (reading : ℕ) (own : Slot → Bool) (e : Effect) (d : Deed) → Matches t own e d → read (acceptedAs t reading e) ≡ afterDeed reading own t d
-matched t reading own e d x = λ i. (x .answer i, record { slots = record { all = x .slots i }; last = reading; pool = t .pool })
+matched t reading own e d x = λ i. (
+  x .answer i,
+  record { slots = record { all = x .slots i }; doubts = doubtsOf (doubtsAfter (x .doubt i) (t .doubts .entries)); last = reading; pool = t .pool },
+)
 
 pub accepted-does : (t : Table) (reading : ℕ) (m : List ℕ) (h : Header) → eqb (h .reference) 0 ≡ false
     → read (acceptedAs t reading (heardBy t reading m (Is h))) ≡ does reading m h t

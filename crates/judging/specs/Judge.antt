@@ -117,14 +117,26 @@ abbrev pub released : ℕ → Bool → ℕ → Bool → Verdict
 released reading second cause expired =
     turned (clearing reading second cause expired) (reply.Release (because cause (diagnosed expired))) 0
 
--- "T308 30,000: first, RELEASE with the first cause and diagnostic again and T308; second, gone."
-abbrev pub expireClearing : Clearing → ℕ → Verdict
-expireClearing k reading = cond (k .second) (ended reply.None) (released reading true (k .cause) (k .expired))
+-- document 02, R-2: "with 64, a second expiry keeps the call in N12 and starts T308 again, sending nothing"
+abbrev pub waiting : ℕ → Clearing → Verdict
+waiting reading k = turned (clearing reading true (k .cause) (k .expired)) reply.None 0
+
+-- "T308 30,000: first, RELEASE with the first cause and diagnostic again and T308; second, gone."; full: there are 64 pairs in doubt
+abbrev pub expireClearing : Bool → Clearing → ℕ → Verdict
+expireClearing full k reading = cond (k .second) (cond full (waiting reading k) (ended reply.None)) (released reading true (k .cause) (k .expired))
 
 -- "T303 4,000 ms: gone, no message (house). T310 10,000: RELEASE 102, diagnostic "310", N12, T308." N3 and N10 run no timer
-abbrev pub expire : Phase → ℕ → Verdict
-expire N3 reading = silent
-expire (N6 d) reading = ended reply.None
-expire (N9 d) reading = released reading false 102 true
-expire N10 reading = silent
-expire (N12 k) reading = expireClearing k reading
+abbrev pub expire : Bool → Phase → ℕ → Verdict
+expire full N3 reading = silent
+expire full (N6 d) reading = ended reply.None
+expire full (N9 d) reading = released reading false 102 true
+expire full N10 reading = silent
+expire full (N12 k) reading = expireClearing full k reading
+
+-- document 02, R-2: "on the second T308 expiry": the second T308 runs in this state
+abbrev pub lastT308 : Phase → Bool
+lastT308 N3 = false
+lastT308 (N6 d) = false
+lastT308 (N9 d) = false
+lastT308 N10 = false
+lastT308 (N12 k) = k .second

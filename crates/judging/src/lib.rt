@@ -6,6 +6,7 @@
 //   no_call_reply             the reply to a message on no call, other than SETUP
 //   global_reply              the reply to a message on the global reference, other than RESTART with flag 0
 //   release, expire           a call is cleared by the host; a timer fires
+//   is_last_t308              if the second T308 runs
 // `judge`, `release` and `expire` ask for a reading that is not refused. Assumes nothing.
 use calls::Clearing;
 use calls::Phase;
@@ -20,7 +21,7 @@ ghost use mathlib.Core.Bool.{false};
 ghost use Prim.Native.Nat.{_≤_};
 ghost use Rattle.judging.specs.Class.{classify};
 ghost use Rattle.judging.specs.Verdict.{because, plainCause, answered, turned, ended};
-ghost use Rattle.judging.specs.Judge.{releaseComplete, releaseReply, statusVerdict, statusOf, contentsVerdict, judge, statusReply, noCallReply, globalReply, diagnosed, released, expireClearing, expire};
+ghost use Rattle.judging.specs.Judge.{releaseComplete, releaseReply, statusVerdict, statusOf, contentsVerdict, judge, statusReply, noCallReply, globalReply, diagnosed, released, waiting, expireClearing, expire, lastT308};
 ghost use Rattle.elements.specs.Values.{causeIn, callStateIn};
 
 // What a message is to a live call.
@@ -296,26 +297,56 @@ pub fn release(reading: u64, second: bool, cause: u8, expired: bool) -> Verdict
     )
 }
 
-fn expire_clearing(clearing: Clearing, reading: u64) -> Verdict
+// With no room for a doubt, the call waits: T308 starts again, and nothing is sent.
+fn wait(reading: u64, clearing: Clearing) -> Verdict
     requires { ⌜ reading ≤ 4000000000000 ⌝ }
-    ensures { λ r. ⌜ r ≡ expireClearing clearing reading ⌝ }
+    ensures { λ r. ⌜ r ≡ waiting reading clearing ⌝ }
+{
+    let again = Clearing {
+        deadline: reading + 30000,
+        second: true,
+        cause: clearing.cause,
+        expired: clearing.expired,
+    };
+    turned(Phase::N12(again), Reply::None, 0)
+}
+
+fn expire_clearing(clearing: Clearing, reading: u64, full: bool) -> Verdict
+    requires { ⌜ reading ≤ 4000000000000 ⌝ }
+    ensures { λ r. ⌜ r ≡ expireClearing full clearing reading ⌝ }
 {
     if clearing.second {
+        if full {
+            return wait(reading, clearing);
+        }
         return ended(Reply::None);
     }
     release(reading, true, clearing.cause, clearing.expired)
 }
 
-// The timer of a call in this state fires.
-pub fn expire(phase: Phase, reading: u64) -> Verdict
+// If the second T308 runs in this state.
+pub fn is_last_t308(phase: Phase) -> bool
+    ensures { λ r. ⌜ r ≡ lastT308 phase ⌝ }
+{
+    match phase {
+        Phase::N3 => false,
+        Phase::N6(_) => false,
+        Phase::N9(_) => false,
+        Phase::N10 => false,
+        Phase::N12(clearing) => clearing.second,
+    }
+}
+
+// The timer of a call in this state fires; `full`: there is no room for a doubt.
+pub fn expire(phase: Phase, reading: u64, full: bool) -> Verdict
     requires { ⌜ reading ≤ 4000000000000 ⌝ }
-    ensures { λ r. ⌜ r ≡ expire phase reading ⌝ }
+    ensures { λ r. ⌜ r ≡ expire full phase reading ⌝ }
 {
     match phase {
         Phase::N3 => answered(Reply::None),
         Phase::N6(_) => ended(Reply::None),
         Phase::N9(_) => release(reading, false, 102, true),
         Phase::N10 => answered(Reply::None),
-        Phase::N12(clearing) => expire_clearing(clearing, reading),
+        Phase::N12(clearing) => expire_clearing(clearing, reading, full),
     }
 }

@@ -12,10 +12,10 @@ use Rattle.provisioning.specs.Provisioning.{provision}
 abbrev twoChannels : List ℕ
 twoChannels = 0 ∷ 32 ∷ 33 ∷ []
 
-pub two-channels-lowest : lowest (taken [] []) ((provision twoChannels []) .pool .ranges) ≡ Pair 0 32
+pub two-channels-lowest : lowest (taken [] [] []) ((provision twoChannels []) .pool .ranges) ≡ Pair 0 32
 two-channels-lowest = refl
 
-pub permanent-is-passed : lowest (taken [] ((provision twoChannels (0 ∷ 32 ∷ [])) .pool .permanents)) ((provision twoChannels (0 ∷ 32 ∷ [])) .pool .ranges) ≡ Pair 0 33
+pub permanent-is-passed : lowest (taken [] [] ((provision twoChannels (0 ∷ 32 ∷ [])) .pool .permanents)) ((provision twoChannels (0 ∷ 32 ∷ [])) .pool .ranges) ≡ Pair 0 33
 permanent-is-passed = refl
 
 pub touching-accepted : (provision (0 ∷ 32 ∷ 33 ∷ 0 ∷ 34 ∷ 65535 ∷ []) []) .accepted ≡ true

@@ -1,29 +1,34 @@
 -- Laws for the loops of the reader.
 --   Listed, listed-none, listed-more, listed-list     numbers read into an array
 --   Walked, walked-none, walked-more, walked-all      slots read into an array, their fields one behind the other
+--   Filled, filled-none, filled-more, filled-all      an array filled with the values of a function
 --   provision-same, table-parts         the whole table
+--   tidy-here, tidy-not-here, tidy-end  pairs in doubt that ascend
 --   none-below, below-more, not-below   each number below another
 -- Assumes nothing.
 use Prim.Native.Nat.{ℕ, zero, suc, _+_, _*_, _-_, _/_, _≤_, _<_}
 use mathlib.Core.Path.{_≡_, refl, sym, ap, _∙_}
-use mathlib.Core.Bool.{Bool, true, false, and-false}
+use mathlib.Core.Bool.{Bool, true, false, and-false, _||_}
 use mathlib.Core.Logic.{_≢_}
 use mathlib.Core.List.{List, [], _∷_, _++_, append-assoc, append-nil}
 use native.Mathlib.Omega.{arith}
 use native.Mathlib.Numerals.{add-one}
 use lib.Dec.{eqb}
-use lib.ListN.{length, getD, set, take, drop, length-take}
-use lib.Seq.{getD-drop, getD-set-same, getD-set-other, take-suc-set, take-all}
+use lib.ListN.{length, getD, set, take, drop, length-take, drop-of-length-le}
+use lib.Seq.{drop-cons, getD-drop, getD-set-same, getD-set-other, take-suc-set, take-all}
 use borrow.Author.Tests.{eqb-true, eqb-false}
 use Rattle.octets.specs.Octets.{number}
 use Rattle.channels.proofs.Cases.{by-test}
+use Rattle.channels.specs.declared.Entry.{Entry}
+use Rattle.channels.specs.declared.Doubts.{Doubts}
 use Rattle.channels.specs.declared.Pool.{Pool}
-use Rattle.provisioning.specs.Provisioning.{provision}
+use Rattle.channels.specs.Channels.{noEntry}
+use Rattle.channels.specs.Doubts.{isNone, entryBefore, doubtsOf, tidy}
+use Rattle.provisioning.specs.Provisioning.{numbered, provision}
 use Rattle.calls.specs.declared.Slot.{Slot}
 use Rattle.calls.specs.declared.Slots.{Slots}
-use Rattle.effects.specs.declared.Table.{Table}
 use Rattle.reload.specs.Reload.{allBelow}
-use Rattle.reload.specs.Reading.{twoAt, eightAt, rest, numbersIn, least, listIn, rangeNumbers, pairNumbers, slotIn, behindSlot, slotsIn, tableIn}
+use Rattle.reload.specs.Reading.{twoAt, eightAt, rest, numbersIn, least, listIn, rangeNumbers, pairNumbers, entriesIn, slotIn, behindSlot, slotsIn, tableIn}
 
 -- the first k numbers of the contents are read
 pub record Listed (f numbers : List ℕ) (k : ℕ) : Type 0 where
@@ -48,9 +53,9 @@ listed-all : (f numbers : List ℕ) (k n : ℕ) → Listed f numbers k → n ≤
 listed-all f numbers k n l h size =
     taken n (drop 3 f) numbers size (λ j less. l .each j (omega arith) ∙ sym (two-behind 3 f (j * 2)))
 
-pub listed-list : (most : ℕ) (f numbers : List ℕ) (k n : ℕ) → Listed f numbers k → 16 ≤ k → length numbers ≡ 16 → n ≤ 16 → n ≡ least most (twoAt f 1 / 2)
+pub listed-list : (most room : ℕ) (f numbers : List ℕ) (k n : ℕ) → Listed f numbers k → room ≤ k → length numbers ≡ room → n ≤ room → n ≡ least most (twoAt f 1 / 2)
     → take n numbers ≡ listIn most f
-listed-list most f numbers k n l h size few e = listed-all f numbers k n l (omega arith) (omega arith) ∙ ap (numbersIn (drop 3 f)) e
+listed-list most room f numbers k n l h size few e = listed-all f numbers k n l (omega arith) (omega arith) ∙ ap (numbersIn (drop 3 f)) e
 
 pub listed-none : (f numbers : List ℕ) → Listed f numbers 0
 listed-none f numbers = record { each = λ j h. absurd (omega arith) }
@@ -92,6 +97,26 @@ walked-all f at n all next i h k w =
     let none : n - i ≡ 0 = omega arith in
     sym (w .same ∙ rw (none, slots-zero i (drop next f), take-all i all k) (append-nil all))
 
+-- the first k of n values are in the array
+pub record Filled {A : Type 0} (f : ℕ → A) (n : ℕ) (all : List A) (k : ℕ) : Type 0 where
+  pub same : numbered f 0 n ≡ take k all ++ numbered f k (n - k)
+
+module _ {A : Type 0} (f : ℕ → A) (n : ℕ) (all : List A) where
+  pub filled-none : Filled f n all 0
+  filled-none = let e : n ≡ n - 0 = omega arith in record { same = ap (numbered f 0) e }
+
+  pub filled-more : (k : ℕ) (v : A) → k < n → k < length all → v ≡ f k → Filled f n all k → Filled f n (set all k v) (k + 1)
+  filled-more k v h size e w =
+      let one : n - k ≡ suc (n - (k + 1)) = omega arith in
+      let left : numbered f k (n - k) ≡ v ∷ numbered f (k + 1) (n - (k + 1)) = ap (numbered f k) one ∙ rw e in
+      let front : take (k + 1) (set all k v) ≡ take k all ++ (v ∷ []) = rw (add-one k) (take-suc-set all k v size) in
+      record { same = w .same ∙ ap (λ (r : List A). take k all ++ r) left ∙ sym (append-assoc (take k all) (v ∷ []) _) ∙ ap (λ (r : List A). r ++ numbered f (k + 1) (n - (k + 1))) (sym front) }
+
+  pub filled-all : (k : ℕ) → n ≤ k → length all ≤ k → Filled f n all k → all ≡ numbered f 0 n
+  filled-all k h size w =
+      let none : n - k ≡ 0 = omega arith in
+      sym (w .same ∙ rw (none, take-all k all size) (append-nil all))
+
 pub counted : (n : ℕ) (a : List ℕ) → n ≤ length a → n ≡ length (take n a)
 counted n a h = simp length-take (omega arith)
 
@@ -100,9 +125,31 @@ pub provision-same : (rs ps rs₁ ps₁ : List ℕ) → rs ≡ rs₁ → ps ≡ 
 provision-same rs ps rs₁ ps₁ a b = ap (λ (r : List ℕ). provision r ps) a ∙ ap (provision rs₁) b
 
 -- the table, by its parts
-pub table-parts : (f f₂ f₃ : List ℕ) (ss : Slots) (n : ℕ) (pool : Pool) (count : ℕ) → rest (rest f) ≡ f₂ → rest f₂ ≡ f₃ → ss .all ≡ slotsIn 0 f₃ count → n ≡ eightAt f₂ 3
-    → pool ≡ provision (rangeNumbers f) (pairNumbers f) .pool → record { slots = ss; last = n; pool = pool } ≡ tableIn count f
-table-parts f f₂ f₃ ss n pool count a b c d e = rw (a, b, ← c, ← d, e)
+pub table-parts : (f f₂ f₃ f₄ : List ℕ) (ss : Slots) (ds : Doubts) (n : ℕ) (pool : Pool) (count : ℕ) → rest (rest f) ≡ f₂ → rest f₂ ≡ f₃ → rest f₃ ≡ f₄
+    → ss .all ≡ slotsIn 0 f₄ count → ds ≡ doubtsOf (entriesIn (listIn 128 f₃)) → n ≡ eightAt f₂ 3
+    → pool ≡ provision (rangeNumbers f) (pairNumbers f) .pool → record { slots = ss; doubts = ds; last = n; pool = pool } ≡ tableIn count f
+table-parts f f₂ f₃ f₄ ss ds n pool count a b c d e g h = rw (a, b, c, ← d, ← e, ← g, h)
+
+-- Pairs in doubt that ascend; what is left of the list is `drop i es`.
+
+module _ (es : List Entry) (i : ℕ) where
+  abbrev followed : Bool
+  followed = isNone (getD es (i + 1) noEntry) || entryBefore (getD es i noEntry) (getD es (i + 1) noEntry)
+
+  two-left : i + 1 < length es → drop i es ≡ getD es i noEntry ∷ getD es (i + 1) noEntry ∷ drop (suc (i + 1)) es
+  two-left h =
+      drop-cons es i noEntry (omega arith)
+      ∙ ap (λ (k : ℕ). getD es i noEntry ∷ drop k es) (sym (add-one i))
+      ∙ ap (λ (r : List Entry). getD es i noEntry ∷ r) (drop-cons es (i + 1) noEntry h)
+
+  pub tidy-not-here : i + 1 < length es → followed ≡ false → tidy es ≡ tidy (drop i es) → false ≡ tidy es
+  tidy-not-here h e left = sym (left ∙ rw (two-left h, e))
+
+  pub tidy-here : i + 1 < length es → followed ≡ true → tidy es ≡ tidy (drop i es) → tidy es ≡ tidy (drop (i + 1) es)
+  tidy-here h e left = left ∙ rw (two-left h, e, drop-cons es (i + 1) noEntry h)
+
+  pub tidy-end : length es ≡ i + 1 → tidy es ≡ tidy (drop i es) → true ≡ tidy es
+  tidy-end h left = sym (left ∙ rw (drop-cons es i noEntry (omega arith), drop-of-length-le es {i = suc i} (omega arith)))
 
 -- Each number below another.
 

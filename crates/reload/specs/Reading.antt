@@ -4,6 +4,7 @@
 --   rest                      the octets behind the first field
 --   numbersIn, listIn         numbers of two octets; those of the first field
 --   rangeNumbers, pairNumbers the two lists, as start takes them
+--   doubtNumbers, entriesIn   the pairs in doubt
 --   clearingIn, phaseIn, referenceIn, callIn     the live call of the first field
 --   begins, slotIn, behindSlot    a slot holds a call if the first field is its own
 --   slotsIn                   the slots
@@ -15,6 +16,8 @@ use mathlib.Core.List.{List, [], _∷_}
 use lib.Dec.{eqb, leb, ltb}
 use lib.ListN.{length, getD, drop}
 use Rattle.octets.specs.Octets.{number}
+use Rattle.channels.specs.declared.Entry.{Entry}
+use Rattle.channels.specs.Doubts.{doubtRoom, doubtsOf}
 use Rattle.calls.specs.declared.Clearing.{Clearing}
 use Rattle.calls.specs.declared.Phase.{Phase}
 use Rattle.calls.specs.declared.Phase.the-variants.{N3, N6, N9, N10, N12}
@@ -22,7 +25,7 @@ use Rattle.calls.specs.declared.Call.{Call}
 use Rattle.calls.specs.declared.Hold.the-variants.{Live}
 use Rattle.calls.specs.declared.Slot.{Slot}
 use Rattle.calls.specs.Calls.{slotsOf, noSlot}
-use Rattle.provisioning.specs.Provisioning.{provision}
+use Rattle.provisioning.specs.Provisioning.{entryAt, numbered, provision}
 use Rattle.effects.specs.declared.Table.{Table}
 
 abbrev pub twoAt : List ℕ → ℕ → ℕ
@@ -46,12 +49,19 @@ least a b = cond (ltb a b) a b
 abbrev pub listIn : ℕ → List ℕ → List ℕ
 listIn most f = numbersIn (drop 3 f) (least most (twoAt f 1 / 2))
 
--- "1 to 4 ranges, 0 to 8 pairs"
+-- "1 to 4 ranges, 0 to 8 pairs"; "At most 64 pairs are in doubt"
 abbrev pub rangeNumbers : List ℕ → List ℕ
 rangeNumbers f = listIn 12 f
 
 abbrev pub pairNumbers : List ℕ → List ℕ
 pairNumbers f = listIn 16 (rest f)
+
+abbrev pub doubtNumbers : List ℕ → List ℕ
+doubtNumbers f = listIn 128 (rest (rest (rest f)))
+
+-- two numbers for each pair
+abbrev pub entriesIn : List ℕ → List Entry
+entriesIn ns = numbered (entryAt ns) 0 doubtRoom
 
 -- behind tag and length: 3 the slot, 4 to 6 the flagged reference, 7 VPCI, 9 VCI, 11 the state, 12 the deadline, 20 first or second
 -- T308, 21 the cause. Cause 102 has the diagnostic "310", every other cause none
@@ -89,10 +99,11 @@ unfoldable pub slotsIn : ℕ → List ℕ → ℕ → List Slot
 slotsIn slot f zero = []
 slotsIn slot f (suc n) = slotIn slot f ∷ slotsIn (slot + 1) (behindSlot slot f) n
 
--- the ranges, the permanent pairs, the last reading, the calls; over the number of slots
+-- the ranges, the permanent pairs, the last reading, the pairs in doubt, the calls; over the number of slots
 abbrev pub tableIn : ℕ → List ℕ → Table
 tableIn count f = record {
-  slots = slotsOf (slotsIn 0 (rest (rest (rest f))) count);
+  slots = slotsOf (slotsIn 0 (rest (rest (rest (rest f)))) count);
+  doubts = doubtsOf (entriesIn (doubtNumbers f));
   last = eightAt (rest (rest f)) 3;
   pool = provision (rangeNumbers f) (pairNumbers f) .pool;
 }

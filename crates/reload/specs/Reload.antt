@@ -1,16 +1,22 @@
 -- Reloading a table (document 02, R-1): "The reader refuses .. with 9 and gives no table."
 --   clearingKept, phaseKept, callKept, slotKept     what document 01 puts together in a slot
+--   doubtsKept                        the pairs in doubt
 --   allBelow                          a test of each number below another
 --   isForm                            octets that are the saved form of a table of so many slots that keeps the rules
 --   reloadIn, reloadOf                what reloading answers, for so many slots and for ours
 -- Assumes nothing.
 use Prim.Native.Nat.{ℕ, zero, suc, _+_}
-use mathlib.Core.Bool.{Bool, true, false, cond, not, _&&_}
+use mathlib.Core.Bool.{Bool, true, false, cond, not, _&&_, _||_}
 use mathlib.Core.List.{List, []}
 use lib.Dec.{eqb, leb}
 use Rattle.octets.specs.Octets.{equal}
 use Rattle.contents.specs.Traffic.{member}
+use Rattle.channels.specs.declared.Channel.{Channel}
+use Rattle.channels.specs.declared.Channel.the-variants.{None, Pair}
+use Rattle.channels.specs.declared.Entry.{Entry}
+use Rattle.channels.specs.Some.{someOf}
 use Rattle.channels.specs.Channels.{permitted}
+use Rattle.channels.specs.Doubts.{tidy}
 use Rattle.provisioning.specs.Provisioning.{provision}
 use Rattle.calls.specs.declared.Clearing.{Clearing}
 use Rattle.calls.specs.declared.Phase.{Phase}
@@ -66,12 +72,25 @@ unfoldable pub allBelow : (ℕ → Bool) → ℕ → Bool
 allBelow p zero = true
 allBelow p (suc n) = allBelow p n && p n
 
--- "lists that start refuses, a reading over the limit", the calls, and octets that are not the table's own form: "unknown tags, a
+-- document 02, R-2: "refused if one is held or not permitted"
+abbrev pub channelLost : Table → Channel → Bool
+channelLost t None = false
+channelLost t (Pair p v) = not (permitted (t .pool) p v) || someOf (holdsPair p v) (t .slots .all)
+
+abbrev pub isLost : Table → Entry → Bool
+isLost t e = channelLost t (e .channel)
+
+-- "pairs ascending"
+abbrev pub doubtsKept : Table → Bool
+doubtsKept t = tidy (t .doubts .entries) && not (someOf (isLost t) (t .doubts .entries))
+
+-- "lists that start refuses, a reading over the limit", the pairs in doubt, the calls, and octets that are not the table's own form: "unknown tags, a
 -- cut, missing .., repeated or misplaced field, a wrong length, a slot the table lacks"; "each table has one saved form"
 abbrev pub isForm : ℕ → List ℕ → Bool
 isForm count f =
     provision (rangeNumbers f) (pairNumbers f) .accepted
-    && (leb (tableIn count f .last) largestReading && (allBelow (slotKept (tableIn count f)) count && equal (formOf (tableIn count f)) f))
+    && (leb (tableIn count f .last) largestReading
+    && (doubtsKept (tableIn count f) && (allBelow (slotKept (tableIn count f)) count && equal (formOf (tableIn count f)) f)))
 
 -- "It refuses with 9 and gives no table.": as a refused start
 abbrev pub reloadIn : ℕ → List ℕ → Started

@@ -9,26 +9,30 @@ use calls::Hold;
 use calls::Phase;
 use calls::Slot;
 use calls::Slots;
+use channels::Channel;
+use channels::Doubts;
+use channels::Entry;
 use channels::Pool;
 use control::Started;
 use effects::Table;
 use provisioning::Provision;
 ghost use mathlib.Core.Path.{_≡_};
-ghost use mathlib.Core.Bool.{_&&_};
+ghost use mathlib.Core.Bool.{_||_};
 ghost use Prim.Native.Nat.{_+_, _≤_, _<_};
 ghost use mathlib.Core.List.{[]};
-ghost use lib.Dec.{leb};
 ghost use lib.ListN.{length, getD, take, drop};
 ghost use Rattle.octets.specs.Octets.{equal};
+ghost use Rattle.channels.specs.Some.{someOf};
+ghost use Rattle.channels.specs.Doubts.{isNone, entryBefore, doubtsOf, tidy};
 ghost use Rattle.provisioning.specs.Provisioning.{provision};
 ghost use Rattle.control.specs.Events.{startOf};
 ghost use Rattle.saved.specs.Form.{formOf};
-ghost use Rattle.reload.specs.Reading.{twoAt, eightAt, rest, least, listIn, rangeNumbers, pairNumbers, clearingIn, phaseIn, referenceIn, callIn, begins, slotIn, behindSlot, slotsIn, tableIn};
-ghost use Rattle.reload.specs.Reload.{clearingKept, phaseKept, isAt, callKept, slotKept, allBelow, reloadOf};
+ghost use Rattle.reload.specs.Reading.{twoAt, eightAt, rest, least, listIn, rangeNumbers, pairNumbers, entriesIn, clearingIn, phaseIn, referenceIn, callIn, begins, slotIn, behindSlot, slotsIn, tableIn};
+ghost use Rattle.reload.specs.Reload.{clearingKept, phaseKept, isAt, callKept, slotKept, allBelow, isLost, doubtsKept, reloadOf};
 
-// A list of start, in the front of an array.
+// A list of start or the pairs in doubt, in the front of an array.
 struct List {
-    numbers: [u16; 16],
+    numbers: [u16; 128],
     n: usize,
 }
 
@@ -40,21 +44,21 @@ struct Step {
 
 // Octet k of the field at a place, 0 where there is none.
 fn octet_in(form: &[u8], at: usize, k: usize) -> u8
-    requires { ⌜ (at ≤ 4294967296) × (k ≤ 64) ⌝ }
+    requires { ⌜ (at ≤ 4294967296) × (k ≤ 512) ⌝ }
     ensures { λ r. ⌜ r ≡ getD (drop at (now (form .entry))) k 0 ⌝ }
 {
     contents::octet_at(form, at + k)
 }
 
 fn two_in(form: &[u8], at: usize, k: usize) -> u16
-    requires { ⌜ (at ≤ 4294967296) × (k ≤ 63) ⌝ }
+    requires { ⌜ (at ≤ 4294967296) × (k ≤ 511) ⌝ }
     ensures { λ r. ⌜ r ≡ twoAt (drop at (now (form .entry))) k ⌝ }
 {
     octets::number(octet_in(form, at, k), octet_in(form, at, k + 1))
 }
 
 fn eight_in(form: &[u8], at: usize, k: usize) -> u64
-    requires { ⌜ (at ≤ 4294967296) × (k ≤ 56) ⌝ }
+    requires { ⌜ (at ≤ 4294967296) × (k ≤ 504) ⌝ }
     ensures { λ r. ⌜ r ≡ eightAt (drop at (now (form .entry))) k ⌝ }
 {
     let first = two_in(form, at, k) as u64;
@@ -86,13 +90,13 @@ fn least(a: usize, b: usize) -> usize
 
 // The numbers of the field at a place, at most so many.
 fn list_in(form: &[u8], at: usize, most: usize) -> List
-    requires { ⌜ (at ≤ 4294967296) × (most ≤ 16) ⌝ }
+    requires { ⌜ (at ≤ 4294967296) × (most ≤ 128) ⌝ }
     ensures { λ r. ⌜ take (r .n) (r .numbers) ≡ listIn most (drop at (now (form .entry))) ⌝ }
-    ensures few { λ r. ⌜ (r .n ≤ 16) × (length (r .numbers) ≡ 16) ⌝ }
+    ensures few { λ r. ⌜ (r .n ≤ 128) × (length (r .numbers) ≡ 128) ⌝ }
 {
-    let mut numbers = [0u16; 16];
+    let mut numbers = [0u16; 128];
     let mut k: usize = 0;
-    while k < 16 {
+    while k < 128 {
         numbers[k] = two_in(form, at, 3 + k * 2);
         k += 1;
     }
@@ -114,6 +118,26 @@ fn provision_of(form: &[u8]) -> Provision
     let first = ranges.numbers;
     let second = pairs.numbers;
     provisioning::pool_of(&first[..r], &second[..p])
+}
+
+// The pairs in doubt, their field at a place.
+fn doubts_in(form: &[u8], at: usize) -> Doubts
+    requires { ⌜ at ≤ 4294967296 ⌝ }
+    ensures { λ r. ⌜ r ≡ doubtsOf (entriesIn (listIn 128 (drop at (now (form .entry))))) ⌝ }
+{
+    let list = list_in(form, at, 128);
+    let n = list.n;
+    let numbers = list.numbers;
+    let entry = Entry {
+        channel: Channel::None,
+    };
+    let mut entries = [entry; 64];
+    let mut k: usize = 0;
+    while k < 64 {
+        entries[k] = provisioning::entry_at(&numbers[..n], k);
+        k += 1;
+    }
+    Doubts { entries: entries }
 }
 
 // T308, and why the call is cleared.
@@ -200,7 +224,7 @@ fn step_in(form: &[u8], at: usize, slot: usize) -> Step
 
 // The slots, their fields from a place on.
 fn slots_in(form: &[u8], at: usize) -> Slots
-    requires { ⌜ at ≤ 196614 ⌝ }
+    requires { ⌜ at ≤ 262152 ⌝ }
     ensures { λ r. ⌜ r .all ≡ slotsIn 0 (drop at (now (form .entry))) 32 ⌝ }
 {
     let empty = Slot::empty();
@@ -224,10 +248,13 @@ fn table_of(form: &[u8], pool: Pool) -> Table
 {
     let pairs = behind(form, 0);
     let reading = behind(form, pairs);
-    let fields = behind(form, reading);
+    let doubtful = behind(form, reading);
+    let fields = behind(form, doubtful);
     let all = slots_in(form, fields);
+    let doubts = doubts_in(form, doubtful);
     Table {
         slots: all,
+        doubts: doubts,
         last: eight_in(form, reading, 3),
         pool: pool,
     }
@@ -334,11 +361,82 @@ fn are_slots_kept(table: Table) -> bool
     true
 }
 
+// If an entry may stand before the next: a pair only before a higher one.
+fn is_followed(entry: Entry, next: Entry) -> bool
+    ensures { λ r. ⌜ r ≡ (isNone next || entryBefore entry next) ⌝ }
+{
+    if next.is_none() {
+        return true;
+    }
+    entry.is_before(next)
+}
+
+// If the pairs in doubt ascend, with none behind them.
+fn is_tidy(doubts: Doubts) -> bool
+    ensures { λ r. ⌜ r ≡ tidy (doubts .entries) ⌝ }
+{
+    let mut i: usize = 0;
+    while i < 63 {
+        let entry = doubts.entries[i];
+        let next = doubts.entries[i + 1];
+        if !is_followed(entry, next) {
+            return false;
+        }
+        i += 1;
+    }
+    true
+}
+
+// If an entry has a pair that is not permitted or that a call holds.
+fn is_lost(table: Table, entry: Entry) -> bool
+    ensures { λ r. ⌜ r ≡ isLost table entry ⌝ }
+{
+    let pool = table.pool;
+    let slots = table.slots;
+    let channel = entry.channel;
+    match channel {
+        Channel::None => false,
+        Channel::Pair(vpci, vci) => {
+            if !pool.permits(vpci, vci) {
+                return true;
+            }
+            let held = slots.held();
+            held.holds(vpci, vci)
+        }
+    }
+}
+
+fn is_some_lost(table: Table) -> bool
+    ensures { λ r. ⌜ r ≡ someOf (isLost table) (table .doubts .entries) ⌝ }
+{
+    let doubts = table.doubts;
+    let mut i: usize = 0;
+    while i < 64 {
+        let entry = doubts.entries[i];
+        if is_lost(table, entry) {
+            return true;
+        }
+        i += 1;
+    }
+    false
+}
+
+// The pairs in doubt ascend, and none is lost.
+fn are_doubts_kept(table: Table) -> bool
+    ensures { λ r. ⌜ r ≡ doubtsKept table ⌝ }
+{
+    let doubts = table.doubts;
+    if !is_tidy(doubts) {
+        return false;
+    }
+    !is_some_lost(table)
+}
+
 // If the octets are the table's own form.
 fn is_own(table: Table, form: &[u8]) -> bool
     ensures { λ r. ⌜ r ≡ equal (formOf table) (now (form .entry)) ⌝ }
 {
-    let mut own = [0u8; 777];
+    let mut own = [0u8; 1036];
     let n = saved::put_form(&mut own, 0, table);
     octets::same(&own[..n], form)
 }
@@ -360,6 +458,9 @@ pub fn reload(form: &[u8]) -> Started
     let pool = lists.pool;
     let table = table_of(form, pool);
     if 4000000000000 < table.last {
+        return refuse();
+    }
+    if !are_doubts_kept(table) {
         return refuse();
     }
     if !are_slots_kept(table) {

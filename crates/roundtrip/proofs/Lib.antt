@@ -3,5 +3,6 @@ pub mod Fields
 pub mod Calls
 pub mod Lists
 pub mod Tables
+pub mod Doubtful
 pub mod Kept
 pub mod Roundtrip

@@ -13,6 +13,7 @@ use native.Mathlib.Omega.{arith}
 use lib.Dec.{eqb, leb}
 use lib.ListN.{length, getD}
 use borrow.Author.Tests.{eqb-true, eq-eqb, ne-eqb, le-leb, lt-ltb, le-ltb}
+use Rattle.roundtrip.proofs.Doubtful.{sound-doubtful, sound-doubts-kept}
 use Rattle.octets.specs.Octets.{equal}
 use Rattle.octets.proofs.Equal.{same-equal}
 use Rattle.contents.specs.Traffic.{member}
@@ -33,7 +34,7 @@ use Rattle.control.specs.Events.{startOf}
 use Rattle.control.specs.Happens.{Event, happens, after}
 use Rattle.saved.specs.Form.{formOf}
 use Rattle.reload.specs.Reading.{rangeNumbers, pairNumbers, tableIn}
-use Rattle.reload.specs.Reload.{slotKept, allBelow, isForm, reloadIn, reloadOf}
+use Rattle.reload.specs.Reload.{slotKept, allBelow, isForm, reloadIn, reloadOf, doubtsKept}
 use Rattle.reload.specs.Reached.{Beginning, start, reload, begun, Reached}
 use Rattle.safety.specs.Tables.{slotAt, HasCall}
 use Rattle.safety.specs.FixedAnswers.{labelOf, readingOf, roomOf}
@@ -87,26 +88,29 @@ sound-fits t s f = all-fit (t .slots .all) (λ i. hold-fits t s f i (slotAt t i 
 -- the answer, by the table that the form is read as
 abbrev answer : ℕ → List ℕ → Table → Started
 answer count f t =
-    cond (provision (rangeNumbers f) (pairNumbers f) .accepted && (leb (t .last) largestReading && (allBelow (slotKept t) count && equal (formOf t) f)))
+    cond
+    (provision (rangeNumbers f) (pairNumbers f) .accepted
+    && (leb (t .last) largestReading && (doubtsKept t && (allBelow (slotKept t) count && equal (formOf t) f))))
     (taken t)
     (startOf [] [])
 
-all-pass : {A : Type 0} {a b c d : Bool} (x y : A) → a ≡ true → b ≡ true → c ≡ true → d ≡ true → cond (a && (b && (c && d))) x y ≡ x
-all-pass x y a b c d = rw (a, b, c, d)
+all-pass : {A : Type 0} {a b c d e : Bool} (x y : A) → a ≡ true → b ≡ true → c ≡ true → d ≡ true → e ≡ true → cond (a && (b && (c && (d && e)))) x y ≡ x
+all-pass x y a b c d e = rw (a, b, c, d, e)
 
 form-taken : (count : ℕ) (f : List ℕ) (t : Table) → tableIn count f ≡ t → formOf t ≡ f → provision (rangeNumbers f) (pairNumbers f) .accepted ≡ true
-    → t .last ≤ 4000000000000 → allBelow (slotKept t) count ≡ true → reloadIn count f ≡ taken t
-form-taken count f t back same accepted small kept =
+    → t .last ≤ 4000000000000 → doubtsKept t ≡ true → allBelow (slotKept t) count ≡ true → reloadIn count f ≡ taken t
+form-taken count f t back same accepted small doubts kept =
     let as-table : reloadIn count f ≡ answer count f t = ap (answer count f) back in
     let own : equal (formOf t) f ≡ true = ap (equal (formOf t)) (sym same) ∙ same-equal (formOf t) in
-    as-table ∙ all-pass (taken t) (startOf [] []) accepted (le-leb (t .last) largestReading small) kept own
+    as-table ∙ all-pass (taken t) (startOf [] []) accepted (le-leb (t .last) largestReading small) doubts kept own
 
 taken-in : (count : ℕ) (t : Table) → Savable t → length (t .slots .all) ≡ count → reloadIn count (formOf t) ≡ taken t
 taken-in count t v size =
     let s = v .sound in
     let small : t .last < 18446744073709551616 = omega (arith, s .last-high) in
-    form-taken count (formOf t) t (table-back count t (v .provisioned) small size (sound-fits t s (v .references))) refl
-    (lists-back t (v .provisioned)) (s .last-high) (sound-kept t s count)
+    let d = sound-doubtful t s in
+    form-taken count (formOf t) t (table-back count t (v .provisioned) d small size (sound-fits t s (v .references))) refl
+    (lists-back t (v .provisioned) d) (s .last-high) (sound-doubts-kept t s) (sound-kept t s count)
 
 pub taken-each : (t : Table) → Savable t → reloadOf (formOf t) ≡ taken t
 taken-each t v = taken-in slotCount t v (v .sound .has-slots)

@@ -7,7 +7,7 @@
 -- Assumes nothing.
 use Prim.Native.Nat.{ℕ, _+_, _%_}
 use mathlib.Core.Path.{_≡_, refl}
-use mathlib.Core.Bool.{Bool, true, false, not, _&&_, _||_}
+use mathlib.Core.Bool.{Bool, true, false, not, _&&_, _||_, cond}
 use mathlib.Core.List.{List, [], _∷_}
 use native.Mathlib.Omega.{arith}
 use lib.Dec.{eqb, ltb}
@@ -16,6 +16,7 @@ use Rattle.contents.specs.Traffic.{member}
 use Rattle.channels.specs.Some.{someOf}
 use Rattle.channels.specs.Channels.{permanent, knownVpci}
 use Rattle.channels.proofs.Cases.{by-test, clash}
+use Rattle.calls.specs.declared.Clearing.{Clearing}
 use Rattle.calls.specs.declared.Phase.{Phase}
 use Rattle.calls.specs.declared.Phase.the-variants.{N3, N6, N9, N10, N12}
 use Rattle.calls.specs.declared.Hold.{Hold}
@@ -43,13 +44,13 @@ use Rattle.judging.specs.declared.Class.the-variants as class
 use Rattle.judging.specs.declared.Kind.{Kind}
 use Rattle.judging.specs.declared.Kind.the-variants as kind
 use Rattle.judging.specs.declared.Verdict.{Verdict}
-use Rattle.judging.specs.Verdict.{silent}
+use Rattle.judging.specs.Verdict.{silent, ended}
 use Rattle.judging.specs.Class.{classify}
-use Rattle.judging.specs.Judge.{releaseComplete, releaseReply, statusVerdict, contentsVerdict, judgedAs, statusReply, noCallReply, released, expire}
+use Rattle.judging.specs.Judge.{releaseComplete, releaseReply, statusVerdict, contentsVerdict, judgedAs, statusReply, noCallReply, released, expire, waiting}
 use Rattle.effects.specs.declared.Effect.{Effect}
 use Rattle.effects.specs.declared.Table.{Table}
 use Rattle.effects.specs.Restart.{pairRestart, restartEffect}
-use Rattle.effects.specs.Effects.{onHold, globalEffect, fireHold, fired}
+use Rattle.effects.specs.Effects.{onHold, globalEffect, fireHold, fired, noRoom}
 use Rattle.control.specs.Refusals.{hostCauses}
 use Rattle.control.specs.Events.{connected, cleared}
 use Rattle.safety.specs.Tables.{slotAt}
@@ -208,19 +209,22 @@ member-passes q n (x ∷ xs) all e =
 host-not-45 : (n : ℕ) → member n hostCauses ≡ true → eqb (n % 128) 45 ≡ false
 host-not-45 n host = not-true (eqb (n % 128) 45) (member-passes (λ x. not (eqb (x % 128) 45)) n hostCauses refl host)
 
-expire-not-45 : (last reading : ℕ) (network : Bool) (phase : Phase) → PhaseSound last network phase → VerdictNot45 (expire phase reading)
-expire-not-45 last reading network phase in-N3 = refl
-expire-not-45 last reading network phase (in-N6 d below) = refl
-expire-not-45 last reading network phase (in-N9 d below) = refl
-expire-not-45 last reading network phase (in-N10 n) = refl
-expire-not-45 last reading network phase (by-host n k below host plain) =
-    by-cond VerdictNot45 (k .second) _ (released reading true (k .cause) (k .expired)) refl (host-not-45 (k .cause) host)
-expire-not-45 last reading network phase (by-timer k below cause timed) =
-    by-cond VerdictNot45 (k .second) _ (released reading true (k .cause) (k .expired)) refl (rw cause)
+second-not-45 : (full : Bool) (reading : ℕ) (k : Clearing) → VerdictNot45 (cond full (waiting reading k) (ended reply.None))
+second-not-45 full reading k = by-cond VerdictNot45 full _ (ended reply.None) refl refl
+
+expire-not-45 : (full : Bool) (last reading : ℕ) (network : Bool) (phase : Phase) → PhaseSound last network phase → VerdictNot45 (expire full phase reading)
+expire-not-45 full last reading network phase in-N3 = refl
+expire-not-45 full last reading network phase (in-N6 d below) = refl
+expire-not-45 full last reading network phase (in-N9 d below) = refl
+expire-not-45 full last reading network phase (in-N10 n) = refl
+expire-not-45 full last reading network phase (by-host n k below host plain) =
+    by-cond VerdictNot45 (k .second) _ (released reading true (k .cause) (k .expired)) (second-not-45 full reading k) (host-not-45 (k .cause) host)
+expire-not-45 full last reading network phase (by-timer k below cause timed) =
+    by-cond VerdictNot45 (k .second) _ (released reading true (k .cause) (k .expired)) (second-not-45 full reading k) (rw cause)
 
 fire-not-45 : (t : Table) (reading i : ℕ) (k : Hold) → Sound t → slotAt t i .hold ≡ k → EffectNot45 (fireHold t reading i k)
 fire-not-45 t reading i Empty s h = refl
-fire-not-45 t reading i (Live c) s h = expire-not-45 (t .last) reading (c .network) (c .phase) ((s .calls-sound i c h) .phase-sound)
+fire-not-45 t reading i (Live c) s h = expire-not-45 (noRoom t) (t .last) reading (c .network) (c .phase) ((s .calls-sound i c h) .phase-sound)
 
 pub fired-not-45 : (t : Table) (reading : ℕ) (f : Found) → Sound t → EffectNot45 (fired t reading f)
 fired-not-45 t reading Nothing s = refl

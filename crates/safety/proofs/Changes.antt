@@ -12,6 +12,9 @@ use mathlib.Core.Logic.{⊎-elim, _≢_}
 use mathlib.Core.Bool.{Bool, false}
 use mathlib.Core.List.{List, map}
 use lib.ListN.{length, getD, set, length-set, length-map}
+use Rattle.channels.specs.Doubts.{isFull}
+use Rattle.channels.specs.declared.Doubting.the-variants.{Keep, Begin, End, EndAll}
+use Rattle.channels.specs.declared.Doubting.{Doubting}
 use Rattle.channels.specs.Some.{someOf}
 use Rattle.channels.specs.declared.Channel.the-variants.{Pair}
 use Rattle.channels.proofs.Cases.{by-test}
@@ -29,7 +32,7 @@ use Rattle.effects.specs.declared.Table.{Table}
 use Rattle.effects.specs.Effect.{fated}
 use Rattle.effects.specs.Effects.{freePair}
 use Rattle.control.specs.Happens.{Event, message, tick, connect, clear, offer}
-use Rattle.safety.specs.Tables.{HasCall}
+use Rattle.safety.specs.Tables.{HasCall, slotAt}
 use Rattle.safety.specs.FixedAnswers.{readingOf}
 use Rattle.safety.specs.Sound.{PhaseSound}
 use Rattle.safety.proofs.Tables.{not-live}
@@ -63,6 +66,14 @@ pub data Comes (t : Table) (e : Event) (j : ℕ) (c : Call) : Type 0 where
 pub record Change (t : Table) (e : Event) (ss : List Slot) : Type 0 where
   pub size : length ss ≡ length (t .slots .all)
   pub comes : (j : ℕ) (c : Call) → getD ss j noSlot .hold ≡ Live c → Comes t e j c
+
+-- What becomes of the doubts: they stay, some end, or the pair of a call that is gone begins to be in doubt, where there is room.
+pub data Doubted (t : Table) (ss : List Slot) : Doubting → Type 0 where
+  keeps : Doubted t ss Keep
+  ends : (p v : ℕ) → Doubted t ss (End p v)
+  ends-all : Doubted t ss EndAll
+  begins : (i : ℕ) (c : Call) → HasCall t i c → getD ss i noSlot ≡ noSlot → ((j : ℕ) → j ≢ i → getD ss j noSlot ≡ slotAt t j)
+      → isFull (t .doubts .entries) ≡ false → Doubted t ss (Begin (c .vpci) (c .vci))
 
 -- What becomes of a state: the state of a fate is sound if the old one is.
 pub data Turns (last reading : ℕ) (network : Bool) (phase : Phase) : Fate → Type 0 where

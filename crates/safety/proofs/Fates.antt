@@ -16,14 +16,15 @@ use Rattle.header.specs.declared.Header.{Header}
 use Rattle.elements.specs.declared.CallStateRead.{CallStateRead}
 use Rattle.elements.specs.declared.CallStateRead.the-variants as callStateRead
 use Rattle.elements.specs.Values.{callStateIn}
+use Rattle.replies.specs.declared.Reply.the-variants as reply
 use Rattle.judging.specs.declared.Class.{Class}
 use Rattle.judging.specs.declared.Class.the-variants as class
 use Rattle.judging.specs.declared.Kind.{Kind}
 use Rattle.judging.specs.declared.Kind.the-variants as kind
 use Rattle.judging.specs.declared.Verdict.{Verdict}
-use Rattle.judging.specs.Verdict.{silent}
+use Rattle.judging.specs.Verdict.{silent, ended}
 use Rattle.judging.specs.Class.{inN6, inN6or9, inN10}
-use Rattle.judging.specs.Judge.{statusVerdict, contentsVerdict, judgedAs, judge, released, expire}
+use Rattle.judging.specs.Judge.{statusVerdict, contentsVerdict, judgedAs, judge, released, expire, waiting}
 use Rattle.control.specs.Refusals.{hostCauses}
 use Rattle.safety.specs.Sound.{PhaseSound, in-N3, in-N6, in-N9, in-N10, by-host, by-timer}
 use Rattle.safety.proofs.Changes.{Turns, stays, goes, turns}
@@ -104,12 +105,15 @@ module _ (last reading : ℕ) (network : Bool) where
         (by-cond P (eqb (h .kind) 0x75) _ _ (expected-turns phase kind.StatusEnquiry stays)
         (by-cond P (eqb (h .kind) 0x7D) _ _ (expected-turns phase kind.Status (status-turns phase (callStateIn m 9))) stays)))))))))
 
-  pub expire-turns : (phase : Phase) → Turns last reading network phase (expire phase reading .fate)
-  expire-turns N3 = stays
-  expire-turns (N6 d) = goes
-  expire-turns (N9 d) = turns _ (timed-out d network)
-  expire-turns N10 = stays
-  expire-turns (N12 k) = by-cond (VerdictTurns (N12 k)) (k .second) _ (released reading true (k .cause) (k .expired)) goes (turns _ (again k network))
+  pub expire-turns : (full : Bool) (phase : Phase) → Turns last reading network phase (expire full phase reading .fate)
+  expire-turns full N3 = stays
+  expire-turns full (N6 d) = goes
+  expire-turns full (N9 d) = turns _ (timed-out d network)
+  expire-turns full N10 = stays
+  expire-turns full (N12 k) =
+      by-cond (VerdictTurns (N12 k)) (k .second) _ (released reading true (k .cause) (k .expired))
+      (by-cond (VerdictTurns (N12 k)) full (waiting reading k) (ended reply.None) (turns _ (again k network)) goes)
+      (turns _ (again k network))
 
   -- "clear: RELEASE with the cause, N12, T308."
   pub clear-turns : (phase : Phase) (cause : ℕ) → member cause hostCauses ≡ true → Turns last reading network phase (released reading false cause false .fate)

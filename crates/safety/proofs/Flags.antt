@@ -19,6 +19,8 @@ use Rattle.channels.specs.declared.Channel.the-variants.{None, Pair}
 use Rattle.channels.specs.Channels.{permanent, knownVpci}
 use Rattle.channels.proofs.Cases.{by-test, clash}
 use Rattle.channels.proofs.Some.{some-at}
+use Rattle.channels.specs.declared.Doubting.{Doubting}
+use Rattle.channels.specs.declared.Doubting.the-variants.{End, EndAll, Keep}
 use Rattle.calls.specs.declared.Phase.{Phase}
 use Rattle.calls.specs.declared.Phase.the-variants.{N3, N6, N9, N10, N12}
 use Rattle.calls.specs.declared.Call.{Call}
@@ -56,12 +58,12 @@ use Rattle.judging.specs.declared.Fate.{Fate}
 use Rattle.judging.specs.declared.Verdict.{Verdict}
 use Rattle.judging.specs.Verdict.{silent, turned, ended}
 use Rattle.judging.specs.Class.{inN6, inN6or9, inN10}
-use Rattle.judging.specs.Judge.{releaseReply, statusVerdict, contentsVerdict, judgedAs, judge, released, expire}
+use Rattle.judging.specs.Judge.{releaseReply, statusVerdict, contentsVerdict, judgedAs, judge, released, expire, waiting}
 use Rattle.effects.specs.declared.Effect.{Effect}
 use Rattle.effects.specs.declared.Table.{Table}
-use Rattle.effects.specs.Effect.{slotCount, noFlags, flagsAt, onSlot, assigned, afterGone, isSet}
+use Rattle.effects.specs.Effect.{slotCount, noFlags, flagsAt, onSlot, assigned, afterGone, isSet, doubting}
 use Rattle.effects.specs.Restart.{pairRestart, restartEffect}
-use Rattle.effects.specs.Effects.{freePair, userCall, onPair, admitted, setupEffect, onNoCall, onHold, addressed, globalEffect, fireHold, fired}
+use Rattle.effects.specs.Effects.{freePair, userCall, onPair, admitted, setupEffect, onNoCall, onHold, addressed, globalEffect, fireHold, fired, noRoom, doubtOf}
 use Rattle.control.specs.Refusals.{holdAt}
 use Rattle.control.specs.Outcome.{Outcome, stored, refusedWith}
 use Rattle.control.specs.Events.{heardBy, connected, cleared, networkCall, offeredOn, offered}
@@ -128,12 +130,15 @@ module _ (m : List ℕ) (h : Header) (reading : ℕ) where
       (by-cond P (eqb (h .kind) 0x75) _ _ (expected-notes phase kind.StatusEnquiry (plain _ _))
       (by-cond P (eqb (h .kind) 0x7D) _ _ (expected-notes phase kind.Status (status-notes phase (callStateIn m 9))) (plain _ _))))))))))
 
-expire-notes : (phase : Phase) (reading : ℕ) → Notes phase (expire phase reading)
-expire-notes N3 reading = plain _ _
-expire-notes (N6 d) reading = ends _
-expire-notes (N9 d) reading = plain _ _
-expire-notes N10 reading = plain _ _
-expire-notes (N12 k) reading = by-cond (Notes (N12 k)) (k .second) _ (released reading true (k .cause) (k .expired)) (ends _) (plain _ _)
+expire-notes : (full : Bool) (phase : Phase) (reading : ℕ) → Notes phase (expire full phase reading)
+expire-notes full N3 reading = plain _ _
+expire-notes full (N6 d) reading = ends _
+expire-notes full (N9 d) reading = plain _ _
+expire-notes full N10 reading = plain _ _
+expire-notes full (N12 k) reading =
+    by-cond (Notes (N12 k)) (k .second) _ (released reading true (k .cause) (k .expired))
+    (by-cond (Notes (N12 k)) full (waiting reading k) (ended reply.None) (plain _ _) (ends _))
+    (plain _ _)
 
 -- A notice and flags.
 
@@ -237,10 +242,11 @@ module _ (t : Table) (whole : HasSlots t) where
     abbrev Exact : Effect → Type 0
     Exact x = NamesExactly t (stored t reading x) (x .notice) (x .flags)
 
-    slot-exact : (i : ℕ) (c : Call) → HasCall t i c → (flag : Bool) (r : ℕ) (v : Verdict) → Notes (c .phase) v → Exact (onSlot (t .slots) i flag r v)
-    slot-exact i c live flag r v (plain f a) = quiet-exact _
-    slot-exact i c live flag r v (ends a) = ended-exact i noSlot (live-within t i c live) _ refl c live refl
-    slot-exact i c live flag r v (answers a waiting) =
+    slot-exact : (i : ℕ) (c : Call) → HasCall t i c → (doubt : Doubting) (flag : Bool) (r : ℕ) (v : Verdict) → Notes (c .phase) v
+        → Exact (doubting doubt (onSlot (t .slots) i flag r v))
+    slot-exact i c live doubt flag r v (plain f a) = quiet-exact _
+    slot-exact i c live doubt flag r v (ends a) = ended-exact i noSlot (live-within t i c live) _ refl c live refl
+    slot-exact i c live doubt flag r v (answers a waiting) =
         answered-exact i (record { hold = Live (moved c N10) }) (live-within t i c live) _ (rw live) c live waiting refl
 
     assigned-exact : (i : ℕ) → place isEmpty (t .slots .all) ≡ At i → (flag : Bool) (r : ℕ) (c : Call) (a : Reply) → Exact (assigned (t .slots) i flag r c a)
@@ -284,8 +290,8 @@ module _ (t : Table) (whole : HasSlots t) where
           let on = map p (t .slots .all) in
           by-test (getD on i false) (λ y. clash (some-at isSet false on i (passes-within isSet false on i refl y) y) none) (λ n. n)
 
-      gone-exact : (flag : Bool) (a : Reply) → Exact (afterGone (gone p (t .slots .all)) flag a)
-      gone-exact flag a =
+      gone-exact : (doubt : Doubting) (flag : Bool) (a : Reply) → Exact (afterGone (gone p (t .slots .all)) doubt flag a)
+      gone-exact doubt flag a =
           let on = map p (t .slots .all) in
           by-test (someOf isSet on)
           (λ y.
@@ -312,13 +318,13 @@ module _ (t : Table) (whole : HasSlots t) where
     pair-restart-exact flag connectionRead.Unreadable = quiet-exact _
     pair-restart-exact flag (connectionRead.Pair p v) =
         by-cond Exact (knownVpci (t .pool) p) _ _
-        (by-cond Exact (ltb v 32 || permanent (t .pool) p v) _ _ (quiet-exact _) (gone-exact (holdsPair p v) (pair-live p v) flag (reply.RestartAcknowledge p v)))
+        (by-cond Exact (ltb v 32 || permanent (t .pool) p v) _ _ (quiet-exact _) (gone-exact (holdsPair p v) (pair-live p v) (End p v) flag (reply.RestartAcknowledge p v)))
         (quiet-exact _)
 
     restart-exact : (flag : Bool) (r : RestartRead) (d : ConnectionRead) → Exact (restartEffect t flag r d)
     restart-exact flag restartRead.Absent d = quiet-exact _
     restart-exact flag restartRead.Unreadable d = quiet-exact _
-    restart-exact flag (restartRead.Class k) d = by-cond Exact (eqb k 0x82) _ _ (gone-exact isLive live-live flag reply.RestartAcknowledgeAll) (pair-restart-exact flag d)
+    restart-exact flag (restartRead.Class k) d = by-cond Exact (eqb k 0x82) _ _ (gone-exact isLive live-live EndAll flag reply.RestartAcknowledgeAll) (pair-restart-exact flag d)
 
     global-exact : (m : List ℕ) (h : Header) → Exact (globalEffect t m h)
     global-exact m h =
@@ -346,7 +352,7 @@ module _ (t : Table) (whole : HasSlots t) where
 
     hold-exact : (m : List ℕ) (h : Header) (i : ℕ) (k : Hold) → slotAt t i .hold ≡ k → Exact (onHold t m h reading i k)
     hold-exact m h i Empty e = quiet-exact _
-    hold-exact m h i (Live c) e = slot-exact i c e (not (h .flag)) (h .reference) (judge m h (c .phase) reading) (judge-notes m h reading (c .phase))
+    hold-exact m h i (Live c) e = slot-exact i c e Keep (not (h .flag)) (h .reference) (judge m h (c .phase) reading) (judge-notes m h reading (c .phase))
 
     found-exact : (m : List ℕ) (h : Header) (f : Found) → Exact (addressed t m h reading f)
     found-exact m h Nothing = no-call-exact m h
@@ -360,7 +366,7 @@ module _ (t : Table) (whole : HasSlots t) where
 
     fire-exact : (i : ℕ) (k : Hold) → slotAt t i .hold ≡ k → Exact (fireHold t reading i k)
     fire-exact i Empty e = quiet-exact _
-    fire-exact i (Live c) e = slot-exact i c e (not (c .network)) (c .reference) (expire (c .phase) reading) (expire-notes (c .phase) reading)
+    fire-exact i (Live c) e = slot-exact i c e (doubtOf (noRoom t) c) (not (c .network)) (c .reference) (expire (noRoom t) (c .phase) reading) (expire-notes (noRoom t) (c .phase) reading)
 
     fired-exact : (f : Found) → Exact (fired t reading f)
     fired-exact Nothing = quiet-exact _

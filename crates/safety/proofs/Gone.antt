@@ -18,6 +18,8 @@ use Rattle.channels.specs.declared.Channel.the-variants.{None, Pair}
 use Rattle.channels.specs.Channels.{permanent, knownVpci}
 use Rattle.channels.proofs.Cases.{by-test, clash}
 use Rattle.channels.proofs.Some.{some-at}
+use Rattle.channels.specs.declared.Doubting.{Doubting}
+use Rattle.channels.specs.declared.Doubting.the-variants.{End, EndAll}
 use Rattle.calls.specs.declared.Phase.{Phase}
 use Rattle.calls.specs.declared.Phase.the-variants.{N3, N6, N9, N10, N12}
 use Rattle.calls.specs.declared.Call.{Call}
@@ -53,14 +55,14 @@ use Rattle.judging.specs.declared.Kind.the-variants as kind
 use Rattle.judging.specs.declared.Fate.{Fate}
 use Rattle.judging.specs.declared.Fate.the-variants as fate
 use Rattle.judging.specs.declared.Verdict.{Verdict}
-use Rattle.judging.specs.Verdict.{silent, turned}
+use Rattle.judging.specs.Verdict.{silent, turned, ended}
 use Rattle.judging.specs.Class.{classify}
-use Rattle.judging.specs.Judge.{statusVerdict, contentsVerdict, judgedAs, released, expire}
+use Rattle.judging.specs.Judge.{statusVerdict, contentsVerdict, judgedAs, released, expire, waiting}
 use Rattle.effects.specs.declared.Effect.{Effect}
 use Rattle.effects.specs.declared.Table.{Table}
 use Rattle.effects.specs.Effect.{slotCount, onSlot, afterGone, isSet}
 use Rattle.effects.specs.Restart.{pairRestart, restartEffect}
-use Rattle.effects.specs.Effects.{freePair, onPair, admitted, setupEffect, onNoCall, onHold, addressed, globalEffect, fireHold, fired, tickEffect}
+use Rattle.effects.specs.Effects.{freePair, onPair, admitted, setupEffect, onNoCall, onHold, addressed, globalEffect, fireHold, fired, tickEffect, noRoom}
 use Rattle.control.specs.Refusals.{holdAt}
 use Rattle.control.specs.Outcome.{Outcome, sending, refusedWith}
 use Rattle.control.specs.Events.{heardBy, connected, cleared, offeredOn, offered}
@@ -103,12 +105,13 @@ judged-told class.Unknown m h phase reading = tt
 judged-told class.Unexpected m h phase reading = tt
 judged-told (class.Expected k) m h phase reading = by-cond Told (h .whole) (contentsVerdict k m phase reading) silent (contents-told k m phase reading) tt
 
-expire-told : (phase : Phase) (reading : ℕ) → Told (expire phase reading)
-expire-told N3 reading = tt
-expire-told (N6 d) reading = refl
-expire-told (N9 d) reading = tt
-expire-told N10 reading = tt
-expire-told (N12 k) reading = by-cond Told (k .second) _ (released reading true (k .cause) (k .expired)) refl tt
+expire-told : (full : Bool) (phase : Phase) (reading : ℕ) → Told (expire full phase reading)
+expire-told full N3 reading = tt
+expire-told full (N6 d) reading = refl
+expire-told full (N9 d) reading = tt
+expire-told full N10 reading = tt
+expire-told full (N12 k) reading =
+    by-cond Told (k .second) _ (released reading true (k .cause) (k .expired)) (by-cond Told full (waiting reading k) (ended reply.None) tt refl) tt
 
 -- One call, in slot i of t.
 
@@ -179,8 +182,8 @@ module _ (t : Table) (whole : HasSlots t) (i : ℕ) (c : Call) (live : HasCall t
   flag-of p (s ∷ ss) zero h = refl
   flag-of p (s ∷ ss) (suc j) h = flag-of p ss j (omega arith)
 
-  gone-kept : (p : Slot → Bool) (flag : Bool) (a : Reply) → KeptOrGone (afterGone (gone p (t .slots .all)) flag a)
-  gone-kept p flag a =
+  gone-kept : (p : Slot → Bool) (doubt : Doubting) (flag : Bool) (a : Reply) → KeptOrGone (afterGone (gone p (t .slots .all)) doubt flag a)
+  gone-kept p doubt flag a =
       let at = getD-map (emptied p) noSlot (by-test (p noSlot) (λ y. rw y) (λ n. rw n)) (t .slots .all) i in
       by-test (p (slotAt t i))
       (λ y.
@@ -199,13 +202,13 @@ module _ (t : Table) (whole : HasSlots t) (i : ℕ) (c : Call) (live : HasCall t
   pair-restart-kept flag connectionRead.Unreadable = inl still
   pair-restart-kept flag (connectionRead.Pair p v) =
       by-cond KeptOrGone (knownVpci (t .pool) p) _ _
-      (by-cond KeptOrGone (ltb v 32 || permanent (t .pool) p v) _ _ (inl still) (gone-kept (holdsPair p v) flag (reply.RestartAcknowledge p v)))
+      (by-cond KeptOrGone (ltb v 32 || permanent (t .pool) p v) _ _ (inl still) (gone-kept (holdsPair p v) (End p v) flag (reply.RestartAcknowledge p v)))
       (inl still)
 
   restart-kept : (flag : Bool) (r : RestartRead) (d : ConnectionRead) → KeptOrGone (restartEffect t flag r d)
   restart-kept flag restartRead.Absent d = inl still
   restart-kept flag restartRead.Unreadable d = inl still
-  restart-kept flag (restartRead.Class k) d = by-cond KeptOrGone (eqb k 0x82) _ _ (gone-kept isLive flag reply.RestartAcknowledgeAll) (pair-restart-kept flag d)
+  restart-kept flag (restartRead.Class k) d = by-cond KeptOrGone (eqb k 0x82) _ _ (gone-kept isLive EndAll flag reply.RestartAcknowledgeAll) (pair-restart-kept flag d)
 
   global-kept : (m : List ℕ) (h : Header) → KeptOrGone (globalEffect t m h)
   global-kept m h =
@@ -249,7 +252,7 @@ module _ (t : Table) (whole : HasSlots t) (i : ℕ) (c : Call) (live : HasCall t
 
   fire-kept : (reading k : ℕ) (d : Hold) → KeptOrGone (fireHold t reading k d)
   fire-kept reading k Empty = inl still
-  fire-kept reading k (Live d) = slot-kept k (not (d .network)) (d .reference) (expire (d .phase) reading) (expire-told (d .phase) reading)
+  fire-kept reading k (Live d) = slot-kept k (not (d .network)) (d .reference) (expire (noRoom t) (d .phase) reading) (expire-told (noRoom t) (d .phase) reading)
 
   fired-kept : (reading : ℕ) (f : Found) → KeptOrGone (fired t reading f)
   fired-kept reading Nothing = inl still

@@ -42,7 +42,7 @@ use Rattle.setup.specs.Setup.{admission}
 use Rattle.effects.specs.declared.Effect.{Effect}
 use Rattle.effects.specs.declared.Table.{Table}
 use Rattle.effects.specs.Restart.{pairRestart, restartEffect}
-use Rattle.effects.specs.Effects.{freePair, userCall, onPair, admitted, setupEffect, onNoCall, onHold, addressed, globalEffect, fireHold, fired}
+use Rattle.effects.specs.Effects.{freePair, userCall, onPair, admitted, setupEffect, onNoCall, onHold, addressed, globalEffect, fireHold, fired, noRoom}
 use Rattle.control.specs.Refusals.{largestReading, holdAt, unclearable, causeRefusal, hostCauses}
 use Rattle.control.specs.Events.{heardBy, connected, cleared, networkCall, offeredOn, offered}
 use Rattle.control.specs.Happens.{Event, message, tick, connect, clear, offer}
@@ -106,7 +106,7 @@ module _ (t : Table) (e : Event) (order : t .last ≤ readingOf e) where
   fire-change : (i : ℕ) (k : Hold) → slotAt t i .hold ≡ k → Changes (fireHold t (readingOf e) i k)
   fire-change i Empty g = still
   fire-change i (Live c) g =
-      fated-change t e (later (t .last) (readingOf e) order) i c _ g (expire-turns (t .last) (readingOf e) (c .network) (c .phase))
+      fated-change t e (later (t .last) (readingOf e) order) i c _ g (expire-turns (t .last) (readingOf e) (c .network) (noRoom t) (c .phase))
 
   fired-change : (f : Found) → Changes (fired t (readingOf e) f)
   fired-change Nothing = still

@@ -8,6 +8,7 @@ pub mod FixedStart
 pub mod Changes
 pub mod Fates
 pub mod Happenings
+pub mod Doubtful
 pub mod Reloaded
 pub mod Sound
 pub mod References

@@ -98,7 +98,8 @@ slots-fit slot (suc n) f h =
 pub form-fits : (count : ℕ) (f : List ℕ) → ((k : ℕ) → getD f k 0 < 256) → reloadIn count f .refusal ≡ 0 → ReferencesFit (reloadIn count f .table)
 form-fits count f h e =
     rw ((reload-in count f e) .1)
-    (λ i c k. fit-at (slotsIn 0 (rest (rest (rest f))) count) i (slots-fit 0 count (rest (rest (rest f))) (rest-octets (rest (rest f)) (rest-octets (rest f) (rest-octets f h)))) c k)
+    (λ i c k. fit-at (slotsIn 0 (rest (rest (rest (rest f)))) count) i
+    (slots-fit 0 count (rest (rest (rest (rest f)))) (rest-octets (rest (rest (rest f))) (rest-octets (rest (rest f)) (rest-octets (rest f) (rest-octets f h))))) c k)
 
 -- Every table that is reached.
 

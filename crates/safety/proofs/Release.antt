@@ -39,18 +39,19 @@ use Rattle.replies.specs.Reply.{kindOf}
 use Rattle.setup.specs.declared.Admission.{Admission}
 use Rattle.setup.specs.declared.Admission.the-variants.{Admitted, Refused}
 use Rattle.setup.specs.Setup.{admission}
+use Rattle.replies.specs.declared.Reply.the-variants as reply
 use Rattle.judging.specs.declared.Class.{Class}
 use Rattle.judging.specs.declared.Class.the-variants as class
 use Rattle.judging.specs.declared.Kind.{Kind}
 use Rattle.judging.specs.declared.Kind.the-variants as kind
 use Rattle.judging.specs.declared.Verdict.{Verdict}
-use Rattle.judging.specs.Verdict.{silent}
+use Rattle.judging.specs.Verdict.{silent, ended}
 use Rattle.judging.specs.Class.{classify}
-use Rattle.judging.specs.Judge.{releaseComplete, releaseReply, statusVerdict, contentsVerdict, judgedAs, released, expire}
+use Rattle.judging.specs.Judge.{releaseComplete, releaseReply, statusVerdict, contentsVerdict, judgedAs, released, expire, waiting}
 use Rattle.effects.specs.declared.Effect.{Effect}
 use Rattle.effects.specs.declared.Table.{Table}
 use Rattle.effects.specs.Restart.{pairRestart, restartEffect}
-use Rattle.effects.specs.Effects.{freePair, onPair, admitted, setupEffect, onNoCall, onHold, addressed, globalEffect, fireHold, fired, tickEffect}
+use Rattle.effects.specs.Effects.{freePair, onPair, admitted, setupEffect, onNoCall, onHold, addressed, globalEffect, fireHold, fired, tickEffect, noRoom}
 use Rattle.control.specs.Refusals.{holdAt}
 use Rattle.control.specs.Outcome.{Outcome, effectReply, refusedWith}
 use Rattle.control.specs.Events.{heardBy, connected, cleared, offeredOn, offered}
@@ -101,13 +102,15 @@ judged-unnoticed class.Unexpected m h phase reading = λ e. refl
 judged-unnoticed (class.Expected k) m h phase reading =
     by-cond VerdictUnnoticed (h .whole) (contentsVerdict k m phase reading) silent (contents-unnoticed k m phase reading) (λ e. refl)
 
-expire-unnoticed : (phase : Phase) (reading : ℕ) → VerdictUnnoticed (expire phase reading)
-expire-unnoticed N3 reading = λ e. refl
-expire-unnoticed (N6 d) reading = λ e. absurd (omega arith)
-expire-unnoticed (N9 d) reading = λ e. refl
-expire-unnoticed N10 reading = λ e. refl
-expire-unnoticed (N12 k) reading =
-    by-cond VerdictUnnoticed (k .second) _ (released reading true (k .cause) (k .expired)) (λ e. absurd (omega arith)) (λ e. refl)
+expire-unnoticed : (full : Bool) (phase : Phase) (reading : ℕ) → VerdictUnnoticed (expire full phase reading)
+expire-unnoticed full N3 reading = λ e. refl
+expire-unnoticed full (N6 d) reading = λ e. absurd (omega arith)
+expire-unnoticed full (N9 d) reading = λ e. refl
+expire-unnoticed full N10 reading = λ e. refl
+expire-unnoticed full (N12 k) reading =
+    by-cond VerdictUnnoticed (k .second) _ (released reading true (k .cause) (k .expired))
+    (by-cond VerdictUnnoticed full (waiting reading k) (ended reply.None) (λ e. absurd (omega arith)) (λ e. absurd (omega arith)))
+    (λ e. refl)
 
 -- Effects.
 
@@ -168,7 +171,7 @@ module _ (t : Table) where
 
   fire-unnoticed : (reading i : ℕ) (k : Hold) → Unnoticed (fireHold t reading i k)
   fire-unnoticed reading i Empty = λ e. refl
-  fire-unnoticed reading i (Live c) = expire-unnoticed (c .phase) reading
+  fire-unnoticed reading i (Live c) = expire-unnoticed (noRoom t) (c .phase) reading
 
   fired-unnoticed : (reading : ℕ) (f : Found) → Unnoticed (fired t reading f)
   fired-unnoticed reading Nothing = λ e. refl

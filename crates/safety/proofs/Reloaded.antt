@@ -8,18 +8,23 @@
 use Prim.Native.Nat.{ℕ, zero, suc, _+_, _≤_, _<_}
 use mathlib.Core.Path.{_≡_, refl, sym, ap, _∙_}
 use mathlib.Core.Logic.{_≢_}
-use mathlib.Core.Bool.{Bool, true, false, cond, not, _&&_}
-use mathlib.Core.List.{List, []}
+use mathlib.Core.Bool.{Bool, true, false, cond, not, _&&_, _||_}
+use mathlib.Core.List.{List, [], _∷_}
 use native.Mathlib.Omega.{arith}
 use lib.Dec.{eqb, leb}
 use lib.ListN.{length}
-use borrow.Author.Tests.{eqb-true, eqb-false, leb-true, not-true, lt-ltb}
+use borrow.Author.Tests.{eqb-true, eqb-false, leb-true, not-true, lt-ltb, not-false}
+use Rattle.channels.specs.declared.Entry.{Entry}
+use Rattle.channels.specs.declared.Channel.the-variants.{None, Pair}
+use Rattle.channels.specs.declared.Channel.{Channel}
+use Rattle.channels.specs.Doubts.{doubtRoom, tidy}
+use Rattle.channels.specs.Some.{someOf}
 use Rattle.octets.specs.Octets.{equal}
 use Rattle.octets.proofs.Equal.{equal-same}
 use Rattle.contents.specs.Traffic.{member}
-use Rattle.channels.specs.Channels.{permitted, inRanges}
+use Rattle.channels.specs.Channels.{permitted, inRanges, isPair, isEntry, among}
 use Rattle.channels.proofs.Cases.{by-test, clash, both}
-use Rattle.provisioning.specs.Provisioning.{provision}
+use Rattle.provisioning.specs.Provisioning.{provision, entryAt, numbered}
 use Rattle.provisioning.proofs.Accepted.{provision-pair}
 use Rattle.calls.specs.declared.Clearing.{Clearing}
 use Rattle.calls.specs.declared.Phase.{Phase}
@@ -33,16 +38,24 @@ use Rattle.effects.specs.declared.Table.{Table}
 use Rattle.effects.specs.Effect.{slotCount}
 use Rattle.control.specs.Refusals.{largestReading, hostCauses}
 use Rattle.saved.specs.Form.{formOf}
-use Rattle.reload.specs.Reading.{rangeNumbers, pairNumbers, rest, behindSlot, slotsIn, tableIn}
-use Rattle.reload.specs.Reload.{phaseKept, isAt, callKept, slotKept, allBelow, isForm, reloadIn, reloadOf}
+use Rattle.reload.specs.Reading.{rangeNumbers, pairNumbers, rest, behindSlot, slotsIn, tableIn, doubtNumbers}
+use Rattle.reload.specs.Reload.{phaseKept, isAt, callKept, slotKept, allBelow, isForm, reloadIn, reloadOf, channelLost, isLost, doubtsKept}
 use Rattle.safety.specs.Tables.{HasSlots, HasCall}
 use Rattle.safety.specs.Sound.{PhaseSound, in-N3, in-N6, in-N9, in-N10, by-host, by-timer, CallSound, Sound}
-use Rattle.safety.proofs.Tables.{live-within}
+use Rattle.safety.proofs.Tables.{live-within, held-some}
+
+length-numbered : {A : Type 0} (f : ℕ → A) (k n : ℕ) → length (numbered f k n) ≡ n
+length-numbered f k zero = refl
+length-numbered f k (suc n) = ap suc (length-numbered f (k + 1) n)
 
 pub slots-counted : (slot n : ℕ) (f : List ℕ) → length (slotsIn slot f n) ≡ n
 unfolding slotsIn
 slots-counted slot zero f = refl
 slots-counted slot (suc n) f = ap suc (slots-counted (slot + 1) n (behindSlot slot f))
+
+neither : (a b : Bool) → (a || b) ≡ false → (a ≡ false) × (b ≡ false)
+neither true b e = clash refl e
+neither false b e = (refl, e)
 
 below-at : (p : ℕ → Bool) (n i : ℕ) → allBelow p n ≡ true → i < n → p i ≡ true
 unfolding allBelow
@@ -108,10 +121,29 @@ kept-phase last false (N12 k) e =
     let a = both (leb (k .deadline) (last + 30000)) _ e in
     kept-clearing last false k (k .expired) refl (leb-true _ _ (a .0)) (a .1)
 
--- a table whose pool is start's and whose calls are kept
+-- a pair in doubt that is kept
+kept-channel : (t : Table) (p v : ℕ) (c : Channel) → channelLost t c ≡ false → isPair p v c ≡ true
+    → (permitted (t .pool) p v ≡ true) × (someOf (holdsPair p v) (t .slots .all) ≡ false)
+kept-channel t p v None e h = clash h refl
+kept-channel t p v (Pair q w) e h =
+    let same = both (eqb q p) (eqb w v) h in
+    let a = neither (not (permitted (t .pool) q w)) (someOf (holdsPair q w) (t .slots .all)) e in
+    rw (← eqb-true q p (same .0), ← eqb-true w v (same .1)) (not-false (permitted (t .pool) q w) (a .0), a .1)
+
+kept-doubt : (t : Table) (p v : ℕ) (es : List Entry) → not (someOf (isLost t) es) ≡ true → among p v es ≡ true
+    → (permitted (t .pool) p v ≡ true) × (someOf (holdsPair p v) (t .slots .all) ≡ false)
+kept-doubt t p v [] e h = clash h refl
+kept-doubt t p v (x ∷ es) e h =
+    let a = neither (isLost t x) (someOf (isLost t) es) (not-true _ e) in
+    by-test (isEntry p v x)
+    (λ y. kept-channel t p v (x .channel) (a .0) y)
+    (λ n. kept-doubt t p v es (rw (a .1)) (rw n at h))
+
+-- a table whose pool is start's and whose doubts and calls are kept
 kept-sound : (t : Table) (rs ps : List ℕ) → HasSlots t → t .last ≤ 4000000000000 → t .pool ≡ provision rs ps .pool
+    → length (t .doubts .entries) ≡ doubtRoom → doubtsKept t ≡ true
     → ((i : ℕ) (c : Call) → HasCall t i c → Kept t i c) → Sound t
-kept-sound t rs ps size high pool kept = record {
+kept-sound t rs ps size high pool room doubts kept = record {
   has-slots = size;
   last-high = high;
   numbers = numbers;
@@ -128,6 +160,10 @@ kept-sound t rs ps size high pool kept = record {
       };
   pair-once = λ i j c d h g p v. one-place i j (sym (kept i c h .first-on-pair) ∙ rw (p, v) (kept j d g .first-on-pair));
   reference-once = λ i j c d h g p v. one-place i j (sym (kept i c h .first-named) ∙ rw (p, v) (kept j d g .first-named));
+  doubts-room = room;
+  doubts-tidy = (both (tidy (t .doubts .entries)) _ doubts) .0;
+  doubt-permitted = λ p v h. (kept-doubt t p v (t .doubts .entries) ((both (tidy (t .doubts .entries)) _ doubts) .1) h) .0;
+  doubt-not-held = λ p v h k. clash (held-some t p v k) ((kept-doubt t p v (t .doubts .entries) ((both (tidy (t .doubts .entries)) _ doubts) .1) h) .1);
 }
   where
     one-place : (i j : ℕ) → At i ≡ At j → i ≡ j
@@ -142,6 +178,7 @@ kept-sound t rs ps size high pool kept = record {
 pub record Form (count : ℕ) (f : List ℕ) : Type 0 where
   pub accepted : provision (rangeNumbers f) (pairNumbers f) .accepted ≡ true
   pub reading : tableIn count f .last ≤ 4000000000000
+  pub doubts : doubtsKept (tableIn count f) ≡ true
   pub all-kept : allBelow (slotKept (tableIn count f)) count ≡ true
   pub same : formOf (tableIn count f) ≡ f
 
@@ -149,13 +186,15 @@ pub form-is : (count : ℕ) (f : List ℕ) → isForm count f ≡ true → Form 
 form-is count f e =
     let a = both (provision (rangeNumbers f) (pairNumbers f) .accepted) _ e in
     let b = both (leb (tableIn count f .last) largestReading) _ (a .1) in
-    let d = both (allBelow (slotKept (tableIn count f)) count) _ (b .1) in
-    record { accepted = a .0; reading = leb-true _ _ (b .0); all-kept = d .0; same = equal-same _ _ (d .1) }
+    let c = both (doubtsKept (tableIn count f)) _ (b .1) in
+    let d = both (allBelow (slotKept (tableIn count f)) count) _ (c .1) in
+    record { accepted = a .0; reading = leb-true _ _ (b .0); doubts = c .0; all-kept = d .0; same = equal-same _ _ (d .1) }
 
 form-sound : (count : ℕ) (f : List ℕ) → count ≡ slotCount → Form count f → Sound (tableIn count f)
 form-sound count f ours form =
-    let size : length (tableIn count f .slots .all) ≡ count = slots-counted 0 count (rest (rest (rest f))) in
+    let size : length (tableIn count f .slots .all) ≡ count = slots-counted 0 count (rest (rest (rest (rest f)))) in
     kept-sound (tableIn count f) (rangeNumbers f) (pairNumbers f) (size ∙ ours) (form .reading) refl
+    (length-numbered (entryAt (doubtNumbers f)) 0 doubtRoom) (form .doubts)
     (λ i c h. kept-call count (tableIn count f) i c size (form .all-kept) h)
 
 -- a reload that is accepted

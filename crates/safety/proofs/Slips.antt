@@ -69,7 +69,7 @@ not-handed-out t i c h free =
     clash
     (held-holds (c .vpci) (c .vci) (t .slots .all)
     ∙ held-some t (c .vpci) (c .vci) (record { slot = i; call = c; live = h; pair = record { vpci = refl; vci = refl } }))
-    ((lowest.free-permitted (heldOf (t .slots .all) .entries) (t .pool) (c .vpci) (c .vci) free) .1)
+    ((lowest.free-permitted (heldOf (t .slots .all) .entries) (t .doubts .entries) (t .pool) (c .vpci) (c .vci) free) .1)
 
 cleared-at : (t : Table) (reading slot cause : ℕ) (c : Call) (k : Hold) → slotAt t slot .hold ≡ k → k ≡ Live c
     → getD (cleared t reading slot cause k .slots .all) slot noSlot .hold ≡ Live (moved c (clearing reading false cause false))

@@ -12,7 +12,10 @@ use native.Mathlib.Omega.{arith}
 use lib.Dec.{eqb}
 use lib.ListN.{length-replicate}
 use borrow.Author.Tests.{eqb-true, eq-eqb}
-use Rattle.channels.specs.Channels.{permitted, inRanges}
+use Rattle.safety.proofs.Doubtful.{DoubtsOf, DoubtsSound, outcome-doubted, doubts-sound}
+use Rattle.channels.proofs.InDoubt.{none-tidy, none-among}
+use Rattle.channels.specs.Doubts.{doubtRoom}
+use Rattle.channels.specs.Channels.{permitted, inRanges, noEntry}
 use Rattle.channels.proofs.Cases.{by-test, clash, both}
 use Rattle.channels.proofs.Some.{some-at}
 use Rattle.channels.proofs.Lowest as lowest
@@ -43,12 +46,12 @@ use Rattle.safety.proofs.Cases.{beq-same}
 
 module _ (t : Table) (e : Event) (c : Call) (n : NewCall t e c) where
   new-permitted : permitted (t .pool) (c .vpci) (c .vci) ≡ true
-  new-permitted = (lowest.free-permitted (heldOf (t .slots .all) .entries) (t .pool) (c .vpci) (c .vci) (n .pair)) .0
+  new-permitted = (lowest.free-permitted (heldOf (t .slots .all) .entries) (t .doubts .entries) (t .pool) (c .vpci) (c .vci) (n .pair)) .0
 
   pub new-free : {P : Type 0} → Holds t (c .vpci) (c .vci) → P
   new-free h =
       clash (held-holds (c .vpci) (c .vci) (t .slots .all) ∙ held-some t (c .vpci) (c .vci) h)
-      ((lowest.free-permitted (heldOf (t .slots .all) .entries) (t .pool) (c .vpci) (c .vci) (n .pair)) .1)
+      ((lowest.free-permitted (heldOf (t .slots .all) .entries) (t .doubts .entries) (t .pool) (c .vpci) (c .vci) (n .pair)) .1)
 
   pub new-unnamed : {P : Type 0} (i : ℕ) (d : Call) → HasCall t i d → d .network ≡ c .network → d .reference ≡ c .reference → P
   new-unnamed i d h side value =
@@ -56,7 +59,7 @@ module _ (t : Table) (e : Event) (c : Call) (n : NewCall t e c) where
       clash (some-at (isCall (c .network) (c .reference)) noSlot (t .slots .all) i (live-within t i d h) at) (n .unnamed)
 
 module _ (t : Table) (e : Event) (s : Sound t) (u : Table) (change : Change t e (u .slots .all))
-    (last : u .last ≡ readingOf e) (high : readingOf e ≤ 4000000000000) (pool : u .pool ≡ t .pool) where
+    (last : u .last ≡ readingOf e) (high : readingOf e ≤ 4000000000000) (pool : u .pool ≡ t .pool) (doubts : DoubtsOf t u) where
   call-sound : (c : Call) (j : ℕ) → Comes t e j c → CallSound u c
   call-sound c j (old d h same f) =
       let k = s .calls-sound j d h in
@@ -98,6 +101,9 @@ module _ (t : Table) (e : Event) (s : Sound t) (u : Table) (change : Change t e 
   reference-once i j c d (new n place) (old d₀ h same f) p v = new-unnamed t e c n j d₀ h (same .network ∙ sym p) (same .reference ∙ sym v)
   reference-once i j c d (new n place) (new n′ place′) p v = one-place i j (sym place ∙ place′)
 
+  in-doubt : DoubtsSound t e s u change pool
+  in-doubt = doubts-sound t e s u change pool doubts
+
   pub change-sound : Sound u
   change-sound = record {
     has-slots = change .size ∙ s .has-slots;
@@ -106,6 +112,10 @@ module _ (t : Table) (e : Event) (s : Sound t) (u : Table) (change : Change t e 
     calls-sound = λ i c h. call-sound c i (change .comes i c h);
     pair-once = λ i j c d h k. pair-once i j c d (change .comes i c h) (change .comes j d k);
     reference-once = λ i j c d h k. reference-once i j c d (change .comes i c h) (change .comes j d k);
+    doubts-room = in-doubt .room;
+    doubts-tidy = in-doubt .in-order;
+    doubt-permitted = in-doubt .permits;
+    doubt-not-held = in-doubt .not-held;
   }
 
 -- One event.
@@ -126,7 +136,7 @@ event-keeps-sound t e s =
     let z = eqb-true (refusalOf t e) 0 y in
     let stored = (accepts t e z) .stored in
     rw (left-accepted t e y)
-    (change-sound t e s (outcomeOf t e .answer .table) (outcome-change t e z) (stored .last) ((accepted-reading t e z) .1) (stored .pool)))
+    (change-sound t e s (outcomeOf t e .answer .table) (outcome-change t e z) (stored .last) ((accepted-reading t e z) .1) (stored .pool) (outcome-doubted t e)))
     (λ n. rw (left-refused t e n) s)
 
 -- Start.
@@ -144,6 +154,10 @@ start-sound ranges pairs = record {
   calls-sound = λ i c h. no-call ranges pairs i c h;
   pair-once = λ i j c d h k p v. no-call ranges pairs i c h;
   reference-once = λ i j c d h k p v. no-call ranges pairs i c h;
+  doubts-room = length-replicate doubtRoom noEntry;
+  doubts-tidy = none-tidy doubtRoom;
+  doubt-permitted = λ p v h. clash h (none-among doubtRoom p v);
+  doubt-not-held = λ p v h k. clash h (none-among doubtRoom p v);
 }
 
 -- All events after it.

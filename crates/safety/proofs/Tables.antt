@@ -8,12 +8,14 @@
 -- Assumes nothing.
 use Prim.Native.Nat.{ℕ, _<_}
 use mathlib.Core.Path.{_≡_, refl, sym, ap, _∙_}
-use mathlib.Core.Bool.{Bool, true, false}
+use mathlib.Core.Logic.{_⊎_, inl, inr, ⊎-elim}
+use mathlib.Core.Bool.{Bool, true, false, _||_, or-true}
 use native.Mathlib.Omega.{arith}
 use lib.Dec.{eqb}
 use lib.ListN.{length}
 use borrow.Author.Tests.{eqb-true, eq-eqb}
 use Rattle.channels.specs.Some.{someOf}
+use Rattle.channels.specs.Channels.{among}
 use Rattle.channels.specs.declared.Channel.the-variants as channel
 use Rattle.channels.proofs.Cases.{by-test, clash, both}
 use Rattle.channels.proofs.Some.{some-at, some-none}
@@ -28,7 +30,7 @@ use Rattle.calls.proofs.First.{unplaced, some-nothing}
 use Rattle.calls.proofs.Calls.{held-holds, call-named}
 use Rattle.effects.specs.declared.Table.{Table}
 use Rattle.effects.specs.Effects.{freePair}
-use Rattle.safety.specs.Tables.{HasSlots, slotAt, HasCall, NoneEmpty, OnPair, Holds, NoneFree}
+use Rattle.safety.specs.Tables.{HasSlots, slotAt, HasCall, NoneEmpty, OnPair, Holds, InDoubt, NoneFree}
 use Rattle.safety.specs.NoPair.{NoSuchCall}
 use Rattle.safety.proofs.Lists.{some-found, passes-within}
 use Rattle.safety.proofs.Cases.{beq-same}
@@ -57,6 +59,10 @@ hold-on : (p v : ℕ) (h : Hold) → onPair p v h ≡ true → (c : Call) × ((h
 hold-on p v Empty e = clash e refl
 hold-on p v (Live c) e = (c, (refl, on-pair p v c e))
 
+either : {P : Type 0} (a b : Bool) → (a || b) ≡ true → (a ≡ true → P) → (b ≡ true → P) → P
+either true b e f g = f refl
+either false b e f g = g e
+
 module _ (t : Table) where
   pub holds-at : (i p v : ℕ) (c : Call) → HasCall t i c → OnPair p v c → holdsPair p v (slotAt t i) ≡ true
   holds-at i p v c h o = rw h (pair-on p v c o)
@@ -79,10 +85,19 @@ module _ (t : Table) where
 
   pub none-free : freePair t ≡ channel.None → NoneFree t
   none-free e p v permitted =
-      some-held p v (sym (held-holds p v (t .slots .all)) ∙ lowest.none-free (heldOf (t .slots .all) .entries) (t .pool) e p v permitted)
+      either (among p v (heldOf (t .slots .all) .entries)) (among p v (t .doubts .entries))
+      (lowest.none-free (heldOf (t .slots .all) .entries) (t .doubts .entries) (t .pool) e p v permitted)
+      (λ y. inl (some-held p v (sym (held-holds p v (t .slots .all)) ∙ y)))
+      (λ y. inr y)
 
   pub free-none : NoneFree t → freePair t ≡ channel.None
-  free-none h = lowest.all-held (heldOf (t .slots .all) .entries) (t .pool) (λ p v permitted. held-holds p v (t .slots .all) ∙ held-some p v (h p v permitted))
+  free-none h =
+      lowest.none-left (heldOf (t .slots .all) .entries) (t .doubts .entries) (t .pool)
+      (λ p v permitted.
+      ⊎-elim
+      (λ (y : Holds t p v). rw (held-holds p v (t .slots .all) ∙ held-some p v y))
+      (λ (y : InDoubt t p v). rw y (or-true (among p v (heldOf (t .slots .all) .entries))))
+      (h p v permitted))
 
 module _ (t : Table) (whole : HasSlots t) where
   pub none-empty : place isEmpty (t .slots .all) ≡ Nothing → NoneEmpty t

@@ -10,9 +10,10 @@ use mathlib.Core.Path.{_≡_}
 use mathlib.Core.Logic.{_≢_}
 use mathlib.Core.Bool.{Bool, true, false}
 use mathlib.Core.List.{List, [], _∷_}
-use lib.ListN.{getD}
+use lib.ListN.{length, getD}
 use Rattle.contents.specs.Traffic.{member}
 use Rattle.channels.specs.Channels.{permitted}
+use Rattle.channels.specs.Doubts.{doubtRoom, tidy}
 use Rattle.calls.specs.declared.Clearing.{Clearing}
 use Rattle.calls.specs.declared.Phase.{Phase}
 use Rattle.calls.specs.declared.Phase.the-variants.{N3, N6, N9, N10, N12}
@@ -21,7 +22,7 @@ use Rattle.effects.specs.declared.Table.{Table}
 use Rattle.control.specs.Refusals.{hostCauses}
 use Rattle.control.specs.Happens.{Event, message, tick, connect, clear, offer}
 use Rattle.reload.specs.Reached.{Reached, BegunInOctets}
-use Rattle.safety.specs.Tables.{HasSlots, HasCall}
+use Rattle.safety.specs.Tables.{HasSlots, HasCall, Holds, InDoubt}
 
 -- N3 is the user's call, N6 and N9 are the network's. A deadline is not further past the last reading than its timer is long:
 -- "T303 4,000 ms", "T310 10,000", "T308 30,000". N12 has a cause of the host, or the network's call has "102, diagnostic "310""
@@ -53,6 +54,11 @@ pub record Sound (t : Table) : Type 0 where
   pub calls-sound : (i : ℕ) (c : Call) → HasCall t i c → CallSound t c
   -- "No two live calls hold one VPCI/VCI pair"
   pub pair-once : (i j : ℕ) (c d : Call) → HasCall t i c → HasCall t j d → c .vpci ≡ d .vpci → c .vci ≡ d .vci → i ≡ j
+  -- document 02, R-2: "At most 64 pairs are in doubt", ascending; each is permitted, and no live call holds it
+  pub doubts-room : length (t .doubts .entries) ≡ doubtRoom
+  pub doubts-tidy : tidy (t .doubts .entries) ≡ true
+  pub doubt-permitted : (p v : ℕ) → InDoubt t p v → permitted (t .pool) p v ≡ true
+  pub doubt-not-held : (p v : ℕ) → InDoubt t p v → Holds t p v → ⊥
   -- no two live calls have one flagged reference
   pub reference-once : (i j : ℕ) (c d : Call) → HasCall t i c → HasCall t j d → c .network ≡ d .network → c .reference ≡ d .reference → i ≡ j
 

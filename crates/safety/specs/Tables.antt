@@ -3,13 +3,14 @@
 --   slotAt          one slot, empty where the table has none
 --   HasCall         slot i holds the live call c
 --   NoneEmpty       no slot is empty
---   Holds, NoneFree a live call holds a pair; no permitted pair is free
+--   Holds, InDoubt, NoneFree     a live call holds a pair; a pair is in doubt; no permitted pair is free
 -- Assumes nothing.
 use Prim.Native.Nat.{ℕ, _<_}
 use mathlib.Core.Path.{_≡_}
+use mathlib.Core.Logic.{_⊎_}
 use mathlib.Core.Bool.{true}
 use lib.ListN.{length, getD}
-use Rattle.channels.specs.Channels.{permitted}
+use Rattle.channels.specs.Channels.{among, permitted}
 use Rattle.calls.specs.declared.Call.{Call}
 use Rattle.calls.specs.declared.Hold.the-variants.{Live}
 use Rattle.calls.specs.declared.Slot.{Slot}
@@ -43,6 +44,10 @@ pub record Holds (t : Table) (p v : ℕ) : Type 0 where
   pub live : HasCall t slot call
   pub pair : OnPair p v call
 
--- "no permitted pair free"
+-- document 02, R-2: the pair is in doubt
+abbrev pub InDoubt : Table → ℕ → ℕ → Type 0
+InDoubt t p v = among p v (t .doubts .entries) ≡ true
+
+-- "no permitted pair free": ""free" now means neither held nor in doubt"
 abbrev pub NoneFree : Table → Type 0
-NoneFree t = (p v : ℕ) → permitted (t .pool) p v ≡ true → Holds t p v
+NoneFree t = (p v : ℕ) → permitted (t .pool) p v ≡ true → Holds t p v ⊎ InDoubt t p v

@@ -42,7 +42,7 @@ joined f (x ∷ xs) = f x ++ joined f xs
 abbrev pub rangeOctets : Range → List ℕ
 rangeOctets r = cond (leb (r .first) (r .last)) (two (r .vpci) ++ (two (r .first) ++ two (r .last))) []
 
--- "one for permanent pairs": VPCI, VCI
+-- "one for permanent pairs": VPCI, VCI; and for the pairs in doubt (document 02, R-2)
 abbrev pub channelOctets : Channel → List ℕ
 channelOctets None = []
 channelOctets (Pair p v) = two p ++ two v
@@ -77,4 +77,5 @@ callFields slot (s ∷ ss) = holdField slot (s .hold) ++ callFields (slot + 1) s
 abbrev pub formOf : Table → List ℕ
 formOf t =
     field 1 (joined rangeOctets (t .pool .ranges))
-    ++ (field 2 (joined entryOctets (t .pool .permanents)) ++ (field 3 (eight (t .last)) ++ callFields 0 (t .slots .all)))
+    ++ (field 2 (joined entryOctets (t .pool .permanents))
+    ++ (field 3 (eight (t .last)) ++ (field 5 (joined entryOctets (t .doubts .entries)) ++ callFields 0 (t .slots .all))))

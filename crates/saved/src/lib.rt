@@ -8,6 +8,7 @@ use calls::Hold;
 use calls::Phase;
 use calls::Slots;
 use channels::Channel;
+use channels::Doubts;
 use channels::Pool;
 use channels::Range;
 use effects::Table;
@@ -132,6 +133,23 @@ fn put_permanents(room: &mut [u8], at: usize, pool: Pool) -> usize
     next
 }
 
+// The pairs in doubt, one behind the other.
+fn put_doubts(room: &mut [u8], at: usize, doubts: Doubts) -> usize
+    requires { ⌜ at + 256 ≤ length (now room) ⌝ }
+    ensures { λ r. ⌜ Wrote (now (room .entry)) at (joined entryOctets (doubts .entries)) (now (room .exit)) r ⌝ }
+    ensures short { λ r. ⌜ r ≤ at + 256 ⌝ }
+{
+    let mut next = at;
+    let mut i: usize = 0;
+    while i < 64 {
+        let entry = doubts.entries[i];
+        let channel = entry.channel;
+        next = put_channel(room, next, channel);
+        i += 1;
+    }
+    next
+}
+
 // The field of the permitted ranges.
 fn put_range_field(room: &mut [u8], at: usize, pool: Pool) -> usize
     requires { ⌜ at + 27 ≤ length (now room) ⌝ }
@@ -161,6 +179,17 @@ fn put_reading_field(room: &mut [u8], at: usize, last: u64) -> usize
 {
     let next = octets::put(room, at, &[3, 0, 8]);
     put_eight(room, next, last)
+}
+
+// The field of the pairs in doubt.
+fn put_doubt_field(room: &mut [u8], at: usize, doubts: Doubts) -> usize
+    requires { ⌜ at + 259 ≤ length (now room) ⌝ }
+    ensures { λ r. ⌜ Wrote (now (room .entry)) at (field 5 (joined entryOctets (doubts .entries))) (now (room .exit)) r ⌝ }
+    ensures short { λ r. ⌜ r ≤ at + 259 ⌝ }
+{
+    let mut contents = [0u8; 256];
+    let size = put_doubts(&mut contents, 0, doubts);
+    put_field(room, at, 5, &contents[..size])
 }
 
 // The top bit of a call reference: set for a network-originated call.
@@ -266,16 +295,18 @@ fn put_calls(room: &mut [u8], at: usize, slots: Slots) -> usize
 
 // Writes the form at place `at` of the room, and answers the place behind it.
 pub fn put_form(room: &mut [u8], at: usize, table: Table) -> usize
-    requires { ⌜ at + 777 ≤ length (now room) ⌝ }
+    requires { ⌜ at + 1036 ≤ length (now room) ⌝ }
     ensures { λ r. ⌜ Wrote (now (room .entry)) at (formOf table) (now (room .exit)) r ⌝ }
-    ensures short { λ r. ⌜ r ≤ at + 777 ⌝ }
+    ensures short { λ r. ⌜ (r ≡ at + length (formOf table)) × (r ≤ at + 1036) ⌝ }
 {
     let pool = table.pool;
     let slots = table.slots;
+    let doubts = table.doubts;
     let second = put_range_field(room, at, pool);
     let third = put_permanent_field(room, second, pool);
     let fourth = put_reading_field(room, third, table.last);
-    put_calls(room, fourth, slots)
+    let fifth = put_doubt_field(room, fourth, doubts);
+    put_calls(room, fifth, slots)
 }
 
 // Writes the form at the front of the room; a room too small for it is refused and stays as it was.
@@ -283,7 +314,7 @@ pub fn save(table: Table, room: &mut [u8]) -> Saved
     ensures { λ r. ⌜ (r ≡ savedOf table (length (now (room .entry))))
         × (now (room .exit) ≡ front (savedIn table (length (now (room .entry)))) (now (room .entry))) ⌝ }
 {
-    let mut form = [0u8; 777];
+    let mut form = [0u8; 1036];
     let size = put_form(&mut form, 0, table);
     if room.len() < size {
         return Saved {

@@ -42,6 +42,11 @@ impl Pool {
         })
     }
 
+    /// The pair is in a range.
+    pub fn within(&self, pair: Pair) -> bool {
+        self.ranges.iter().any(|range| range.has(pair))
+    }
+
     pub fn is_permanent(&self, pair: Pair) -> bool {
         self.permanent.contains(&pair)
     }

@@ -1,10 +1,13 @@
 //! Reads a saved form, field by field.
 
 use super::{hold, Call, Clearing, Reference, State, Table};
-use super::{HOST_CAUSES, READING_LIMIT, SLOTS, T303, T308, T310};
+use super::{DOUBTS, HOST_CAUSES, READING_LIMIT, SLOTS, T303, T308, T310};
 use crate::compose::FLAG;
 use crate::decode::Pair;
 use crate::rows::Row;
+
+/// The tags of the fields that come once.
+const SINGLE: [u8; 4] = [0x01, 0x02, 0x03, 0x05];
 
 /// A tag and the contents behind it.
 type Field<'a> = (u8, &'a [u8]);
@@ -13,7 +16,9 @@ impl Table {
     /// The table that a form says, or why it is refused.
     pub fn reload(octets: &[u8]) -> Result<Table, Row> {
         let fields = fields(octets)?;
-        let [(0x01, ranges), (0x02, pairs), (0x03, reading), ref calls @ ..] = fields[..] else {
+        let [(0x01, ranges), (0x02, pairs), (0x03, reading), (0x05, doubts), ref calls @ ..] =
+            fields[..]
+        else {
             return Err(misfit(&fields));
         };
         if calls.iter().any(|call| call.0 != 0x04) {
@@ -22,10 +27,28 @@ impl Table {
         let mut table = Table::start(&numbers(ranges)?, &numbers(pairs)?)?;
         table.reading = long(reading)?;
         hold(table.reading <= READING_LIMIT, Row::ReloadReading)?;
+        table.read_doubts(doubts)?;
         for (_, contents) in calls {
             table.read_call(contents)?;
         }
         Ok(table)
+    }
+
+    fn read_doubts(&mut self, contents: &[u8]) -> Result<(), Row> {
+        let (fours, rest) = contents.as_chunks::<4>();
+        hold(rest.is_empty(), Row::ReloadDoubtsLength)?;
+        hold(fours.len() <= DOUBTS, Row::ReloadDoubtsMany)?;
+        for four in fours {
+            let pair = read_pair(*four);
+            hold(self.pool.within(pair), Row::ReloadDoubtsRange)?;
+            let permanent = self.pool.is_permanent(pair);
+            hold(!permanent, Row::ReloadDoubtsPermanent)?;
+            let last = self.doubts.last().copied();
+            hold(last != Some(pair), Row::ReloadDoubtsTwice)?;
+            hold(last < Some(pair), Row::ReloadDoubtsOrder)?;
+            self.doubts.insert(pair);
+        }
+        Ok(())
     }
 
     /// Puts a call behind those already read.
@@ -36,7 +59,7 @@ impl Table {
         let [slot, high, middle, low, a, b, c, d, state] = *front;
         let slot = self.read_slot(slot)?;
         let reference = self.read_reference([0, high, middle, low])?;
-        let pair = self.read_pair([a, b], [c, d])?;
+        let pair = self.read_free([a, b, c, d])?;
         let state = self.read_state(reference.flag, state, rest)?;
         self.calls[slot] = Some(Call {
             reference,
@@ -67,16 +90,14 @@ impl Table {
         Ok(reference)
     }
 
-    fn read_pair(&self, vpci: [u8; 2], vci: [u8; 2]) -> Result<Pair, Row> {
-        let pair = Pair {
-            vpci: u16::from_be_bytes(vpci),
-            vci: u16::from_be_bytes(vci),
-        };
-        let free = self.live().all(|(_, call)| call.pair != pair);
-        hold(free, Row::ReloadPairTwice)?;
-        let within = self.pool.ranges.iter().any(|range| range.has(pair));
-        let permitted = within && !self.pool.is_permanent(pair);
+    /// A pair that a call may hold.
+    fn read_free(&self, octets: [u8; 4]) -> Result<Pair, Row> {
+        let pair = read_pair(octets);
+        hold(!self.holds(pair), Row::ReloadPairTwice)?;
+        let permitted = self.pool.within(pair) && !self.pool.is_permanent(pair);
         hold(permitted, Row::ReloadPair)?;
+        let certain = !self.doubts.contains(&pair);
+        hold(certain, Row::ReloadDoubtsHeld)?;
         Ok(pair)
     }
 
@@ -138,20 +159,29 @@ fn fields(mut octets: &[u8]) -> Result<Vec<Field<'_>>, Row> {
     Ok(fields)
 }
 
-/// Why fields are not one of 01, 02 and 03 each and then calls.
+/// Why fields are not one of 01, 02, 03 and 05 each and then calls.
 fn misfit(fields: &[Field<'_>]) -> Row {
     let count = |tag: u8| fields.iter().filter(|field| field.0 == tag).count();
-    let known = |field: &Field<'_>| (0x01..=0x04).contains(&field.0);
+    let known = |field: &Field<'_>| (0x01..=0x05).contains(&field.0);
     if !fields.iter().all(known) {
         return Row::ReloadTag;
     }
-    if (0x01..=0x03).any(|tag| count(tag) == 0) {
-        return Row::ReloadMissing;
+    match SINGLE.into_iter().find(|&tag| count(tag) == 0) {
+        Some(0x05) => return Row::ReloadDoubtsMissing,
+        Some(_) => return Row::ReloadMissing,
+        None => {}
     }
-    if (0x01..=0x03).any(|tag| count(tag) > 1) {
+    if SINGLE.into_iter().any(|tag| count(tag) > 1) {
         return Row::ReloadRepeated;
     }
     Row::ReloadMisplaced
+}
+
+fn read_pair([a, b, c, d]: [u8; 4]) -> Pair {
+    Pair {
+        vpci: u16::from_be_bytes([a, b]),
+        vci: u16::from_be_bytes([c, d]),
+    }
 }
 
 /// A state with nothing behind it.

@@ -51,18 +51,20 @@ impl Table {
     fn restart_pair(&mut self, reference: Reference, pair: Pair) -> Answer {
         let parts = [element(RESTART, &[0x80]), connection(pair)].concat();
         let rows = (Row::RestartHeld, Row::RestartFree);
-        self.acknowledge(reference, &parts, rows, |call| call.pair == pair)
+        self.acknowledge(reference, &parts, rows, |named| named == pair)
     }
 
-    /// Removes the calls meant and acknowledges; the rows are for some and none.
+    /// Removes the calls on the pairs meant, ends their doubts and acknowledges;
+    /// the rows are for some calls and none.
     fn acknowledge(
         &mut self,
         reference: Reference,
         parts: &[u8],
         rows: (Row, Row),
-        meant: impl Fn(&Call) -> bool,
+        meant: impl Fn(Pair) -> bool,
     ) -> Answer {
-        let bit = |(slot, call): (usize, Call)| u32::from(meant(&call)) << slot;
+        self.doubts.retain(|pair| !meant(*pair));
+        let bit = |(slot, call): (usize, Call)| u32::from(meant(call.pair)) << slot;
         let flags = Flags(self.live().map(bit).sum());
         let reply = message(reference.sent(), RESTART_ACKNOWLEDGE, &[parts]);
         if flags == Flags::default() {

@@ -2,6 +2,7 @@
 
 use super::{Answer, Call, State, Table};
 use crate::compose::{field, pair_octets};
+use crate::decode::Pair;
 use crate::rows::Row;
 
 impl Table {
@@ -14,21 +15,26 @@ impl Table {
         Answer::reply(Row::SaveAccepted, form)
     }
 
-    /// The fields: ranges, permanent pairs, last reading, live calls.
+    /// The fields: ranges, permanent pairs, last reading, pairs in doubt, live
+    /// calls.
     pub fn form(&self) -> Vec<u8> {
         let ranges = self.pool.ranges.iter();
         let ranges = ranges.flat_map(|range| [range.vpci, range.first, range.last]);
         let ranges: Vec<u8> = ranges.flat_map(u16::to_be_bytes).collect();
-        let pairs = self.pool.permanent.iter();
-        let pairs: Vec<u8> = pairs.flat_map(|&pair| pair_octets(pair)).collect();
         let mut form = field(0x01, &ranges);
-        form.extend(field(0x02, &pairs));
+        form.extend(field(0x02, &pairs_octets(&self.pool.permanent)));
         form.extend(field(0x03, &self.reading.to_be_bytes()));
+        form.extend(field(0x05, &pairs_octets(&self.doubts)));
         for (slot, call) in self.live() {
             form.extend(field(0x04, &call_octets(slot, &call)));
         }
         form
     }
+}
+
+fn pairs_octets<'a>(pairs: impl IntoIterator<Item = &'a Pair>) -> Vec<u8> {
+    let octets = pairs.into_iter().flat_map(|&pair| pair_octets(pair));
+    octets.collect()
 }
 
 fn call_octets(slot: usize, call: &Call) -> Vec<u8> {

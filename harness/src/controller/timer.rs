@@ -1,7 +1,7 @@
 //! Timers and the tick that fires them.
 
 use super::write::cleared;
-use super::{Answer, Call, Clearing, Flags, Request, State, Table};
+use super::{Answer, Call, Clearing, Flags, Request, State, Table, DOUBTS};
 use crate::rows::Row;
 use crate::types::RELEASE;
 
@@ -40,20 +40,36 @@ impl Table {
                 Answer::reply(Row::T310, reply)
             }
             State::N12(clearing) if !clearing.second => self.repeat(slot, call, clearing),
-            State::N12(_) => self.gone(Row::T308Second, Flags::one(slot)),
+            State::N12(clearing) => self.doubt(slot, call, clearing),
             _ => self.gone(Row::T303, Flags::one(slot)),
         }
     }
 
     /// The first T308: RELEASE as before, and T308 again.
     fn repeat(&mut self, slot: usize, call: Call, clearing: Clearing) -> Answer {
+        self.second(slot, call, clearing);
+        let reply = cleared(call.reference, RELEASE, clearing.cause, clearing.diagnostic);
+        Answer::reply(Row::T308First, reply)
+    }
+
+    /// The second T308: gone, with the pair in doubt. Where no more can be in
+    /// doubt, T308 again and nothing else.
+    fn doubt(&mut self, slot: usize, call: Call, clearing: Clearing) -> Answer {
+        if self.doubts.len() == DOUBTS {
+            self.second(slot, call, clearing);
+            return Answer::nothing(Row::T308Waits);
+        }
+        self.doubts.insert(call.pair);
+        self.gone(Row::T308Second, Flags::one(slot))
+    }
+
+    /// Starts the second T308.
+    fn second(&mut self, slot: usize, call: Call, clearing: Clearing) {
         let state = State::N12(Clearing {
             deadline: self.reading + T308,
             second: true,
             ..clearing
         });
         self.enter(slot, call, state);
-        let reply = cleared(call.reference, RELEASE, clearing.cause, clearing.diagnostic);
-        Answer::reply(Row::T308First, reply)
     }
 }

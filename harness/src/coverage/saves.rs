@@ -1,20 +1,23 @@
 //! save and reload, and what goes on after a reload.
 
 use super::{place, Rows, Seen, PLACES};
-use crate::controller::{Call, State, Table, READING_LIMIT, SLOTS, T303, T308, T310};
+use crate::controller::{Call, State, Table, DOUBTS, READING_LIMIT, SLOTS, T303, T308, T310};
 use crate::exchange::Event;
 use crate::rows::Row;
 
-const SAVES: [(&str, &str); 6] = [
+const SAVES: [(&str, &str); 9] = [
     ("SV-0-exact", "save: a room of the form's length"),
     ("SV-0-4096", "save: a room of 4,096 or more"),
     ("SV-0-none", "save: no live call"),
     ("SV-0-full", "save: thirty-two live calls"),
+    ("SV-0-doubts-0", "save: no pair in doubt"),
+    ("SV-0-doubts", "save: pairs in doubt"),
+    ("SV-0-doubts-64", "save: sixty-four pairs in doubt"),
     ("SV-1-less", "save: a room one octet smaller"),
     ("SV-1-0", "save: a room of 0 octets"),
 ];
 
-const RELOADS: [(&str, &str); 16] = [
+const RELOADS: [(&str, &str); 22] = [
     ("RL-0-early", "reload with no table there"),
     ("RL-0-same", "reload of the table that is there"),
     ("RL-0-back", "reload goes back to an earlier reading"),
@@ -30,6 +33,18 @@ const RELOADS: [(&str, &str); 16] = [
     ("RL-0-ranges-4", "reload: four ranges"),
     ("RL-0-pairs-0", "reload: no permanent pair"),
     ("RL-0-pairs-8", "reload: eight permanent pairs"),
+    ("RL-0-doubts-0", "reload: no pair in doubt"),
+    ("RL-0-doubts-1", "reload: one pair in doubt"),
+    ("RL-0-doubts-63", "reload: sixty-three pairs in doubt"),
+    ("RL-0-doubts-64", "reload: sixty-four pairs in doubt"),
+    (
+        "RL-0-doubts-full",
+        "reload: sixty-four pairs in doubt and thirty-two live calls",
+    ),
+    (
+        "RL-0-doubts-last",
+        "reload: every permitted pair is held or in doubt",
+    ),
     ("RL-9-none", "reload of no octets"),
 ];
 
@@ -113,6 +128,12 @@ fn hit_save(rows: &mut Rows, seen: &Seen<'_>, room: usize) {
     rows.hit_if(room == 4_096, "SV-0-4096");
     rows.hit_if(live == 0, "SV-0-none");
     rows.hit_if(live == SLOTS, "SV-0-full");
+    let doubts = table.doubts.len();
+    rows.hit(match doubts {
+        0 => "SV-0-doubts-0",
+        _ => "SV-0-doubts",
+    });
+    rows.hit_if(doubts == DOUBTS, "SV-0-doubts-64");
 }
 
 fn hit_reload(rows: &mut Rows, before: Option<&Table>, after: &Table) {
@@ -133,6 +154,18 @@ fn hit_reload(rows: &mut Rows, before: Option<&Table>, after: &Table) {
     for (_, call) in after.live() {
         hit_call(rows, after, &call);
     }
+    hit_doubts(rows, after, live);
+}
+
+fn hit_doubts(rows: &mut Rows, after: &Table, live: usize) {
+    let doubts = after.doubts.len();
+    if let 0 | 1 | 63 | 64 = doubts {
+        rows.hit(&format!("RL-0-doubts-{doubts}"));
+    }
+    let most = doubts == DOUBTS && live == SLOTS;
+    rows.hit_if(most, "RL-0-doubts-full");
+    let none = doubts > 0 && after.free_pair().is_none();
+    rows.hit_if(none, "RL-0-doubts-last");
 }
 
 fn hit_call(rows: &mut Rows, table: &Table, call: &Call) {

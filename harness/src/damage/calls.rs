@@ -78,6 +78,9 @@ fn pairs(draft: &Draft, place: usize) -> Vec<Damage> {
     if let [.., vpci, _, last @ ..=65_534] = draft.ranges[..] {
         list.push(refused("behind the ranges", vpci, last + 1));
     }
+    for &Pair { vpci, vci } in &draft.doubts {
+        list.push(refused("a pair in doubt", vpci, vci));
+    }
     let free = draft.free_pair().map(with);
     list.extend(free.map(|draft| Damage::draft("a free pair", &draft, true)));
     list

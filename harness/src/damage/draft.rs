@@ -9,6 +9,7 @@ pub struct Draft {
     pub ranges: Vec<u16>,
     pub pairs: Vec<u16>,
     pub reading: u64,
+    pub doubts: Vec<Pair>,
     pub calls: Vec<Entry>,
 }
 
@@ -43,6 +44,7 @@ impl Draft {
             ranges: ranges.flat_map(|r| [r.vpci, r.first, r.last]).collect(),
             pairs: pairs.flat_map(|pair| [pair.vpci, pair.vci]).collect(),
             reading: table.reading,
+            doubts: table.doubts.iter().copied().collect(),
             calls: table.live().map(Entry::of).collect(),
         }
     }
@@ -53,10 +55,13 @@ impl Draft {
             let octets = numbers.iter().flat_map(|number| number.to_be_bytes());
             octets.collect()
         };
+        let doubts = self.doubts.iter().flat_map(|&pair| pair_octets(pair));
+        let doubts: Vec<u8> = doubts.collect();
         let mut fields = vec![
             field(1, &list(&self.ranges)),
             field(2, &list(&self.pairs)),
             field(3, &self.reading.to_be_bytes()),
+            field(5, &doubts),
         ];
         fields.extend(self.calls.iter().map(|call| field(4, &call.octets())));
         fields
@@ -102,12 +107,26 @@ impl Draft {
         (0..SLOTS as u8).find(|&slot| !taken(slot))
     }
 
-    /// The lowest permitted pair that no call holds.
-    pub fn free_pair(&self) -> Option<Pair> {
-        let pool = Pool::new(&self.ranges, &self.pairs).ok()?;
+    /// The same with these pairs in doubt, ascending.
+    pub fn doubting(&self, mut doubts: Vec<Pair>) -> Draft {
+        doubts.sort_unstable();
+        Draft {
+            doubts,
+            ..self.clone()
+        }
+    }
+
+    /// So many of the permitted pairs that are neither held nor in doubt.
+    pub fn free_pairs(&self, most: usize) -> Vec<Pair> {
+        let pool = Pool::new(&self.ranges, &self.pairs);
+        let permitted = pool.iter().flat_map(Pool::permitted);
         let held = |pair: Pair| self.calls.iter().any(|call| call.pair == pair);
-        let free = pool.permitted().find(|&pair| !held(pair));
-        free
+        let free = permitted.filter(|&pair| !held(pair) && !self.doubts.contains(&pair));
+        free.take(most).collect()
+    }
+
+    pub fn free_pair(&self) -> Option<Pair> {
+        self.free_pairs(1).pop()
     }
 }
 

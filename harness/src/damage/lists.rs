@@ -86,22 +86,41 @@ fn wider(draft: &Draft) -> Option<Damage> {
     Some(Damage::draft("a pair more is permitted", &draft, true))
 }
 
-/// A range that begins behind the pair of a call.
-fn narrower(draft: &Draft) -> Option<Damage> {
-    let mut draft = draft.clone();
-    let Pair { vpci, vci } = draft.calls.first()?.pair;
-    let held = |range: &[u16]| range[0] == vpci && (range[1]..range[2]).contains(&vci);
-    let place = draft.ranges.chunks(3).position(held)?;
-    draft.ranges[3 * place + 1] = vci + 1;
-    Some(Damage::draft("a call's pair out of range", &draft, false))
+/// A range that begins behind the pair of a call, or behind a pair in doubt.
+fn narrower(draft: &Draft) -> Vec<Damage> {
+    let held = draft.calls.first().map(|call| call.pair);
+    let tries = [
+        ("a call's pair out of range", held),
+        (
+            "a pair in doubt out of range",
+            draft.doubts.first().copied(),
+        ),
+    ];
+    let mut list = Vec::new();
+    for (what, pair) in tries {
+        let narrowed = pair.and_then(|pair| behind(draft, pair));
+        list.extend(narrowed.map(|draft| Damage::draft(what, &draft, false)));
+    }
+    list
 }
 
-/// One permanent pair more: of a call, or free.
+/// The range that holds a pair begins behind it.
+fn behind(draft: &Draft, Pair { vpci, vci }: Pair) -> Option<Draft> {
+    let mut draft = draft.clone();
+    let holds = |range: &[u16]| range[0] == vpci && (range[1]..range[2]).contains(&vci);
+    let place = draft.ranges.chunks(3).position(holds)?;
+    draft.ranges[3 * place + 1] = vci + 1;
+    Some(draft)
+}
+
+/// One permanent pair more: of a call, in doubt, or free.
 fn permanent(draft: &Draft) -> Vec<Damage> {
     let held = draft.calls.last().map(|call| call.pair);
+    let doubt = draft.doubts.last().copied();
     let room = draft.pairs.len() < 16;
     let tries = [
         ("a call's pair made permanent", held, false),
+        ("a pair in doubt made permanent", doubt, false),
         ("a free pair made permanent", draft.free_pair(), room),
     ];
     let mut list = Vec::new();

@@ -10,31 +10,60 @@ use crate::random::Random;
 const USER: [u8; 3] = [3, 10, 12];
 const NETWORK: [u8; 4] = [6, 9, 10, 12];
 
-/// A draft that keeps the rules, with at most so many calls.
+/// The lists of a start.
+type Lists = (Vec<u16>, Vec<u16>);
+
+/// A draft that keeps the rules, with at most so many calls and twice as many
+/// pairs in doubt.
 pub fn made(random: &mut Random, most: usize) -> Draft {
-    let (ranges, pairs) = lists(random);
+    let lists = lists(random);
     let reading = match random.below(4) {
         0 => random.pick(&[0, 1, 3_999, 40_000]),
         1 => READING_LIMIT - random.pick(&[0, 0, 1, 29_999, 30_000]),
         _ => random.within(0, READING_LIMIT),
     };
-    let mut draft = Draft {
-        ranges,
-        pairs,
-        reading,
-        calls: Vec::new(),
-    };
-    let count = match random.below(4) {
+    let calls = match random.below(4) {
         0 => most,
         1 => random.below(4).min(most),
         _ => random.below(most + 1),
     };
-    add_calls(random, &mut draft, count);
-    draft
+    let doubts = random.pick(&[0, 0, 0, 1, 2, 5, 63, 64]).min(2 * most);
+    filled(random, lists, reading, calls, doubts)
+}
+
+/// A draft with these lists that keeps the rules, most often with as many
+/// pairs in doubt as can be, or nearly.
+pub fn doubtful(random: &mut Random, lists: Lists) -> Draft {
+    let reading = random.within(0, 100_000);
+    let doubts = random.pick(&[1, 3, 62, 63, 63, 64, 64, 64]);
+    let calls = random.below(SLOTS + 1);
+    filled(random, lists, reading, calls, doubts)
+}
+
+/// A draft with so many calls and pairs in doubt, as far as there are pairs.
+fn filled(
+    random: &mut Random,
+    (ranges, pairs): Lists,
+    reading: u64,
+    calls: usize,
+    doubts: usize,
+) -> Draft {
+    let mut draft = Draft {
+        ranges,
+        pairs,
+        reading,
+        doubts: Vec::new(),
+        calls: Vec::new(),
+    };
+    let mut free = draft.free_pairs(usize::MAX);
+    random.shuffle(&mut free);
+    let rest = free.split_off(doubts.min(free.len()));
+    add_calls(random, &mut draft, calls, rest);
+    draft.doubting(free)
 }
 
 /// Lists that start accepts.
-fn lists(random: &mut Random) -> (Vec<u16>, Vec<u16>) {
+fn lists(random: &mut Random) -> Lists {
     loop {
         let count = random.within(1, 4);
         let mut ranges: Vec<[u16; 3]> = (0..count).map(|_| range(random)).collect();
@@ -75,15 +104,11 @@ fn near(random: &mut Random, ranges: &[[u16; 3]]) -> [u16; 2] {
     }
 }
 
-/// Calls on pairs and in slots of any order, as far as there are pairs.
-fn add_calls(random: &mut Random, draft: &mut Draft, count: usize) {
-    let pool = Pool::new(&draft.ranges, &draft.pairs);
-    let permitted = pool.iter().flat_map(Pool::permitted);
-    let mut permitted: Vec<Pair> = permitted.collect();
-    random.shuffle(&mut permitted);
+/// Calls on these pairs and in slots of any order, as far as there are pairs.
+fn add_calls(random: &mut Random, draft: &mut Draft, count: usize, pairs: Vec<Pair>) {
     let mut slots: Vec<u8> = (0..SLOTS as u8).collect();
     random.shuffle(&mut slots);
-    for (slot, pair) in slots.into_iter().zip(permitted).take(count) {
+    for (slot, pair) in slots.into_iter().zip(pairs).take(count) {
         let reference = reference(random, draft);
         let entry = Entry {
             slot,

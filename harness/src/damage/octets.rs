@@ -57,7 +57,7 @@ fn several(random: &mut Random, mut form: Vec<u8>) -> Damage {
     Damage::new("octets changed", form, None)
 }
 
-// A saved form always has an odd number of octets, so one octet more or less
+// A saved form always has an even number of octets, so one octet more or less
 // makes none.
 
 fn doubled(form: &[u8], place: usize) -> Damage {
@@ -74,10 +74,10 @@ fn longer(form: &[u8], octet: u8) -> Damage {
     Damage::refused("an octet more", [form, &[octet]].concat())
 }
 
-/// What is left behind the reading's field, or behind a call's, is a form.
+/// What is left behind the field of doubts, or behind a call's, is a form.
 fn cut(draft: &Draft, length: usize) -> Damage {
     let fields = draft.fields();
-    let mut ends = (3..=fields.len()).map(|count| fields[..count].concat().len());
+    let mut ends = (4..=fields.len()).map(|count| fields[..count].concat().len());
     let whole = ends.any(|end| end == length);
     let octets = draft.octets()[..length].to_vec();
     Damage::new("a form cut", octets, Some(whole))

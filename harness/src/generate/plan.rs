@@ -56,6 +56,8 @@ pub struct Plan {
     pub pace: u64,
     /// The readings begin near the limit.
     pub late: bool,
+    /// It begins with a reload, most often with many pairs in doubt.
+    pub doubtful: bool,
 }
 
 const MIXED: Plan = Plan {
@@ -66,9 +68,10 @@ const MIXED: Plan = Plan {
     disturbed: 15,
     pace: 400,
     late: false,
+    doubtful: false,
 };
 
-const PLANS: [Plan; 11] = [
+const PLANS: [Plan; 13] = [
     MIXED,
     Plan {
         name: "full",
@@ -142,6 +145,26 @@ const PLANS: [Plan; 11] = [
         supply: Supply::Wide,
         clearing: 12,
         pace: 600,
+        ..MIXED
+    },
+    Plan {
+        name: "in doubt",
+        weights: [12, 6, 1, 1, 6, 14, 2, 16, 40, 1, 1],
+        supply: Supply::Wide,
+        clearing: 4,
+        disturbed: 5,
+        pace: 3_000,
+        doubtful: true,
+        ..MIXED
+    },
+    Plan {
+        name: "scarce, in doubt",
+        weights: [20, 6, 1, 2, 14, 16, 2, 12, 26, 1, 1],
+        supply: Supply::Scarce,
+        clearing: 4,
+        disturbed: 8,
+        pace: 3_000,
+        doubtful: true,
         ..MIXED
     },
 ];

@@ -3,7 +3,7 @@
 use super::elements::{readable, unreadable};
 use super::Generator;
 use crate::compose::{connection, element};
-use crate::controller::Table;
+use crate::controller::{Table, DOUBTS};
 use crate::decode::{Pair, CONNECTION, RESTART};
 use crate::types;
 
@@ -43,9 +43,14 @@ impl Generator {
         };
         let draw = self.random.next();
         let held = self.live_call().map(|(_, call)| call.pair);
+        let place = self.random.below(DOUBTS);
         let Some(table) = self.exchange.table.as_ref() else {
             return any;
         };
+        let doubt = table.doubts.iter().nth(place % table.doubts.len().max(1));
+        if let (Some(doubt), 0..8) = (doubt, draw >> 32 & 15) {
+            return *doubt;
+        }
         pair_near(table, draw, held, any).unwrap_or(any)
     }
 }

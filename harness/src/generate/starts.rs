@@ -72,12 +72,13 @@ fn some(random: &mut Random) -> Lists {
 
 /// More pairs than slots.
 fn wide(random: &mut Random) -> Lists {
-    match random.below(3) {
+    match random.below(4) {
         0 => (vec![0, 32, 65_535], vec![]),
         1 => {
             let pairs = (32..40).flat_map(|vci| [0, vci]).collect();
             (vec![0, 32, 48, 0, 50, 60, 1, 32, 32, 1, 34, 90], pairs)
         }
+        2 => (vec![3, 1_000, 1_099], vec![3, 1_001]),
         _ => (
             vec![0, 32, 63, 0, 64, 64, 254, 32, 40],
             vec![0, 65, 200, 32],

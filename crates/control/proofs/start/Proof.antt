@@ -1,4 +1,4 @@
--- `control::start` meets its contract: the pool is what the lists make, and every slot is empty.
+-- `control::start` meets its contract: the pool is what the lists make, every slot is empty, and no pair is in doubt.
 -- Assumes nothing.
 use borrow.Author.Needs.{needs}
 use Rattle.control.proofs.start.Statement.{statement}
@@ -10,11 +10,14 @@ pool-of-requires c κs = search needs
 fresh-requires : tie.Need-fresh-requires
 fresh-requires c κs = search needs
 
+none-requires : tie.Need-none-requires
+none-requires c κs = search needs
+
 returns : tie.Need-returns
-returns c = rw (← c .before .before .before .pool-of .ensures, c .if1 .taken, c .before .fresh .ensures)
+returns c = rw (← c .before .before .before .before .pool-of .ensures, c .if1 .taken, c .before .before .fresh .ensures, c .before .none .ensures)
 
 returns-2 : tie.Need-returns-2
-returns-2 c = rw (← c .before .before .before .pool-of .ensures, c .if1 .left, c .before .fresh .ensures)
+returns-2 c = rw (← c .before .before .before .before .pool-of .ensures, c .if1 .left, c .before .before .fresh .ensures, c .before .none .ensures)
 
 pub start-spec : {M : Type 1} → statement M
-start-spec = tie.close (tie.spec pool-of-requires fresh-requires returns returns-2)
+start-spec = tie.close (tie.spec pool-of-requires fresh-requires none-requires returns returns-2)

@@ -1,9 +1,9 @@
--- `reload::reload` meets its contract: by its four tests.
+-- `reload::reload` meets its contract: by its five tests.
 -- Assumes nothing.
 use mathlib.Core.Path.{sym, ap, _∙_}
 use borrow.Author.Tests.{le-leb, lt-leb, not-true, not-false}
 use Rattle.provisioning.specs.declared.Provision.{Provision}
-use Rattle.reload.proofs.Answered.{no-lists, over-limit, not-kept, not-own, all-pass}
+use Rattle.reload.proofs.Answered.{no-lists, over-limit, doubts-not-kept, not-kept, not-own, all-pass}
 use borrow.Author.Needs.{needs}
 use Rattle.reload.proofs.reload.Statement.{statement}
 use Rattle.reload.proofs.reload.Tie as tie
@@ -33,47 +33,69 @@ returns-2 c =
     let lists = ap (λ (x : Provision). x .accepted) (sym (p .provision-of .ensures)) ∙ not-false _ (t .before .before .if1 .left) in
     c .refuse2 .ensures ∙ over-limit 32 (p .before .before .args .form .now) _ (t .table-of .ensures) lists (lt-leb _ _ (c .before .if2 .taken))
 
-are-slots-kept-requires : tie.Need-are-slots-kept-requires
-are-slots-kept-requires c κs = search needs
+are-doubts-kept-requires : tie.Need-are-doubts-kept-requires
+are-doubts-kept-requires c κs = search needs
 
 refuse-requires-3 : tie.Need-refuse-requires-3
 refuse-requires-3 c κs = search needs
 
 returns-3 : tie.Need-returns-3
 returns-3 c =
-    let k = c .before .before in
-    let t = k .before .before .before in
+    let d = c .before .before in
+    let t = d .before .before .before in
     let p = t .before .before .before .before in
     let lists = ap (λ (x : Provision). x .accepted) (sym (p .provision-of .ensures)) ∙ not-false _ (t .before .before .if1 .left) in
     c .refuse3 .ensures
-    ∙ not-kept 32 (p .before .before .args .form .now) _ (t .table-of .ensures) lists (le-leb _ _ (k .before .if2 .left)) (sym (k .are-slots-kept .ensures) ∙ not-true _ (c .before .if3 .taken))
+    ∙ doubts-not-kept 32 (p .before .before .args .form .now) _ (t .table-of .ensures) lists (le-leb _ _ (d .before .if2 .left))
+    (sym (d .are-doubts-kept .ensures) ∙ not-true _ (c .before .if3 .taken))
 
-is-own-requires : tie.Need-is-own-requires
-is-own-requires c κs = search needs
+are-slots-kept-requires : tie.Need-are-slots-kept-requires
+are-slots-kept-requires c κs = search needs
 
 refuse-requires-4 : tie.Need-refuse-requires-4
 refuse-requires-4 c κs = search needs
 
 returns-4 : tie.Need-returns-4
 returns-4 c =
-    let o = c .before .before in
-    let k = o .before .before in
-    let t = k .before .before .before in
+    let k = c .before .before in
+    let d = k .before .before in
+    let t = d .before .before .before in
     let p = t .before .before .before .before in
     let lists = ap (λ (x : Provision). x .accepted) (sym (p .provision-of .ensures)) ∙ not-false _ (t .before .before .if1 .left) in
     c .refuse4 .ensures
-    ∙ not-own 32 (p .before .before .args .form .now) _ (t .table-of .ensures) lists (le-leb _ _ (k .before .if2 .left)) (sym (k .are-slots-kept .ensures) ∙ not-false _ (o .before .if3 .left))
-    (sym (o .is-own .ensures) ∙ not-true _ (c .before .if4 .taken))
+    ∙ not-kept 32 (p .before .before .args .form .now) _ (t .table-of .ensures) lists (le-leb _ _ (d .before .if2 .left))
+    (sym (d .are-doubts-kept .ensures) ∙ not-false _ (k .before .if3 .left)) (sym (k .are-slots-kept .ensures) ∙ not-true _ (c .before .if4 .taken))
+
+is-own-requires : tie.Need-is-own-requires
+is-own-requires c κs = search needs
+
+refuse-requires-5 : tie.Need-refuse-requires-5
+refuse-requires-5 c κs = search needs
 
 returns-5 : tie.Need-returns-5
 returns-5 c =
-    let o = c .before in
+    let o = c .before .before in
     let k = o .before .before in
-    let t = k .before .before .before in
+    let d = k .before .before in
+    let t = d .before .before .before in
     let p = t .before .before .before .before in
     let lists = ap (λ (x : Provision). x .accepted) (sym (p .provision-of .ensures)) ∙ not-false _ (t .before .before .if1 .left) in
-    all-pass 32 (p .before .before .args .form .now) _ (t .table-of .ensures) lists (le-leb _ _ (k .before .if2 .left)) (sym (k .are-slots-kept .ensures) ∙ not-false _ (o .before .if3 .left))
-    (sym (o .is-own .ensures) ∙ not-false _ (c .if4 .left))
+    c .refuse5 .ensures
+    ∙ not-own 32 (p .before .before .args .form .now) _ (t .table-of .ensures) lists (le-leb _ _ (d .before .if2 .left))
+    (sym (d .are-doubts-kept .ensures) ∙ not-false _ (k .before .if3 .left)) (sym (k .are-slots-kept .ensures) ∙ not-false _ (o .before .if4 .left))
+    (sym (o .is-own .ensures) ∙ not-true _ (c .before .if5 .taken))
+
+returns-6 : tie.Need-returns-6
+returns-6 c =
+    let o = c .before in
+    let k = o .before .before in
+    let d = k .before .before in
+    let t = d .before .before .before in
+    let p = t .before .before .before .before in
+    let lists = ap (λ (x : Provision). x .accepted) (sym (p .provision-of .ensures)) ∙ not-false _ (t .before .before .if1 .left) in
+    all-pass 32 (p .before .before .args .form .now) _ (t .table-of .ensures) lists (le-leb _ _ (d .before .if2 .left))
+    (sym (d .are-doubts-kept .ensures) ∙ not-false _ (k .before .if3 .left)) (sym (k .are-slots-kept .ensures) ∙ not-false _ (o .before .if4 .left))
+    (sym (o .is-own .ensures) ∙ not-false _ (c .if5 .left))
 
 pub reload-spec : {M : Type 1} → statement M
 reload-spec =
@@ -85,10 +107,13 @@ reload-spec =
     table-of-requires
     refuse-requires-2
     returns-2
-    are-slots-kept-requires
+    are-doubts-kept-requires
     refuse-requires-3
     returns-3
-    is-own-requires
+    are-slots-kept-requires
     refuse-requires-4
     returns-4
-    returns-5)
+    is-own-requires
+    refuse-requires-5
+    returns-5
+    returns-6)

@@ -14,6 +14,9 @@ put-permanent-field-requires c κs = search needs
 put-reading-field-requires : tie.Need-put-reading-field-requires
 put-reading-field-requires c κs = search needs
 
+put-doubt-field-requires : tie.Need-put-doubt-field-requires
+put-doubt-field-requires c κs = search needs
+
 put-calls-requires : tie.Need-put-calls-requires
 put-calls-requires c κs = search needs
 
@@ -23,10 +26,15 @@ same-length c = search needs
 returns : tie.Need-returns
 returns c =
     let s = c .before .before in
-    let l = s .before .before .before .before in
+    let d = s .before .before .before .before in
+    let l = d .before .before .before .before in
     let p = l .before .before .before .before in
     let r = p .before .before .before .before in
-    (chain (r .put-range-field .ensures .0) (chain (p .put-permanent-field .ensures .0) (chain (l .put-reading-field .ensures) (s .put-calls .ensures .0))), omega arith)
+    let w =
+    chain (r .put-range-field .ensures .0)
+    (chain (p .put-permanent-field .ensures .0)
+    (chain (l .put-reading-field .ensures) (chain (d .put-doubt-field .ensures .0) (s .put-calls .ensures .0)))) in
+    (w, (w .past, omega arith))
 
 pub put-form-spec : {M : Type 1} → statement M
 put-form-spec =
@@ -35,6 +43,7 @@ put-form-spec =
     put-range-field-requires
     put-permanent-field-requires
     put-reading-field-requires
+    put-doubt-field-requires
     put-calls-requires
     same-length
     returns)

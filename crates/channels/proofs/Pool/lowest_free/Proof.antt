@@ -13,21 +13,21 @@ use Rattle.channels.proofs.Pool.lowest_free.Statement.{statement}
 use Rattle.channels.proofs.Pool.lowest_free.Tie as tie
 
 abbrev Inv-loop : tie.InvT-loop
-Inv-loop held self answer₀ i vpci last v₀ answer v =
+Inv-loop held doubts self answer₀ i vpci last v₀ answer v =
     (i < 4) × (length (self .ranges) ≡ 4) × (answer ≡ None) × (v ≤ 65536) × (last < 65536)
-    × (lowest (taken (held .entries) (self .permanents)) (self .ranges)
-    ≡ scan (taken (held .entries) (self .permanents)) vpci ((last + 1) - v) v (lowest (taken (held .entries) (self .permanents)) (drop (i + 1) (self .ranges))))
+    × (lowest (taken (held .entries) (doubts .entries) (self .permanents)) (self .ranges)
+    ≡ scan (taken (held .entries) (doubts .entries) (self .permanents)) vpci ((last + 1) - v) v (lowest (taken (held .entries) (doubts .entries) (self .permanents)) (drop (i + 1) (self .ranges))))
 
 abbrev μ-loop : tie.MeasureT-loop
-μ-loop held self answer₀ i vpci last v₀ answer v = (last + 1) - v
+μ-loop held doubts self answer₀ i vpci last v₀ answer v = (last + 1) - v
 
 abbrev Inv-search : tie.InvT-search
-Inv-search held self answer₀ i₀ answer i =
+Inv-search held doubts self answer₀ i₀ answer i =
     (i ≤ 4) × (length (self .ranges) ≡ 4) × (answer ≡ None)
-    × (lowest (taken (held .entries) (self .permanents)) (self .ranges) ≡ lowest (taken (held .entries) (self .permanents)) (drop i (self .ranges)))
+    × (lowest (taken (held .entries) (doubts .entries) (self .permanents)) (self .ranges) ≡ lowest (taken (held .entries) (doubts .entries) (self .permanents)) (drop i (self .ranges)))
 
 abbrev μ-search : tie.MeasureT-search
-μ-search held self answer₀ i₀ answer i = 4 - i
+μ-search held doubts self answer₀ i₀ answer i = 4 - i
 
 search-holds : tie.Need-search-holds Inv-loop μ-loop Inv-search μ-search
 search-holds c = (search needs, simp length-map at (c .good .0 .1 .1 .0 .1 .0 .1), refl, refl)
@@ -53,7 +53,7 @@ loop-holds c =
       search needs,
       search needs,
       search needs,
-      s .search .inv .3 ∙ lowest-here (taken (a .held .entries) (a .t1 .permanents)) (a .t1 .ranges) (s .search .i) (omega arith),
+      s .search .inv .3 ∙ lowest-here (taken (a .held .entries) (a .doubts .entries) (a .t1 .permanents)) (a .t1 .ranges) (s .search .i) (omega arith),
     )
 
 cast-vci : tie.Need-cast-vci Inv-loop μ-loop Inv-search μ-search
@@ -73,14 +73,14 @@ loop-again c =
     let l = c .before .before .before in
     let s = l .before .before .before .before .before in
     let a = s .before .args in
-    let t = taken (a .held .entries) (a .t1 .permanents) in
+    let t = taken (a .held .entries) (a .doubts .entries) (a .t1 .permanents) in
     let r = getD (a .t1 .ranges) (s .search .i) zeroRange in (
       search needs,
       search needs,
       search needs,
       search needs,
       search needs,
-      l .loop .inv .5 ∙ scan-taken t (r .vpci) (r .last + 1) (l .loop .v) (lowest t (drop (s .search .i + 1) (a .t1 .ranges))) (omega arith) (sym (c .before .is-taken .ensures) ∙ not-false _ (c .if1 .left)),
+      l .loop .inv .5 ∙ scan-taken t (r .vpci) (r .last + 1) (l .loop .v) (lowest t (drop (s .search .i + 1) (a .t1 .ranges))) (omega arith) (rw (← c .before .is-taken .ensures) (not-false _ (c .if1 .left))),
     )
 
 add-i : tie.Need-add-i Inv-loop μ-loop Inv-search μ-search
@@ -94,7 +94,7 @@ search-again c =
     let l = c .before in
     let s = l .before .before .before .before .before in
     let a = s .before .args in
-    let t = taken (a .held .entries) (a .t1 .permanents) in
+    let t = taken (a .held .entries) (a .doubts .entries) (a .t1 .permanents) in
     let r = getD (a .t1 .ranges) (s .search .i) zeroRange in (
       search needs,
       search needs,
@@ -106,16 +106,16 @@ returns : tie.Need-returns Inv-loop μ-loop Inv-search μ-search
 returns c =
     let s = c .before in
     let a = s .before .args in
-    s .search .inv .2 ∙ sym (s .search .inv .3 ∙ lowest-end (taken (a .held .entries) (a .t1 .permanents)) (a .t1 .ranges) (s .search .i) (omega arith))
+    s .search .inv .2 ∙ sym (s .search .inv .3 ∙ lowest-end (taken (a .held .entries) (a .doubts .entries) (a .t1 .permanents)) (a .t1 .ranges) (s .search .i) (omega arith))
 
 returns-2 : tie.Need-returns-2 Inv-loop μ-loop Inv-search μ-search
 returns-2 c =
     let l = c .before .before .before in
     let s = l .before .before .before .before .before in
     let a = s .before .args in
-    let t = taken (a .held .entries) (a .t1 .permanents) in
+    let t = taken (a .held .entries) (a .doubts .entries) (a .t1 .permanents) in
     let r = getD (a .t1 .ranges) (s .search .i) zeroRange in
-    sym (l .loop .inv .5 ∙ scan-free t (r .vpci) (r .last + 1) (l .loop .v) (lowest t (drop (s .search .i + 1) (a .t1 .ranges))) (omega arith) (sym (c .before .is-taken .ensures) ∙ not-true _ (c .if1 .taken)))
+    sym (l .loop .inv .5 ∙ scan-free t (r .vpci) (r .last + 1) (l .loop .v) (lowest t (drop (s .search .i + 1) (a .t1 .ranges))) (omega arith) (rw (← c .before .is-taken .ensures) (not-true _ (c .if1 .taken))))
 
 pub lowest-free-spec : {M : Type 1} → statement M
 lowest-free-spec =

@@ -1,0 +1,5 @@
+pub mod Marks
+pub mod Acknowledged
+pub mod Verdicts
+pub mod Steps
+pub mod History

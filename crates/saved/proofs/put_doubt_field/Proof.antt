@@ -1,0 +1,44 @@
+-- `saved::put_doubt_field` meets its contract: the contents are counted once they are written. Assumes nothing.
+use borrow.Author.Needs.{needs}
+use native.Mathlib.Omega.{arith}
+use lib.ListN.{length-take}
+use Rattle.saved.proofs.Joined.{filed}
+use Rattle.saved.proofs.put_doubt_field.Statement.{statement}
+use Rattle.saved.proofs.put_doubt_field.Tie as tie
+
+slice-aggregate-put-doubts : tie.Need-slice-aggregate-put-doubts
+slice-aggregate-put-doubts c = search needs
+
+put-doubts-requires : tie.Need-put-doubts-requires
+put-doubts-requires c κs = search needs
+
+array-share-prefix-contents : tie.Need-array-share-prefix-contents
+array-share-prefix-contents c = search needs
+
+slice-aggregate-put-field : tie.Need-slice-aggregate-put-field
+slice-aggregate-put-field c = simp length-take (omega arith)
+
+put-field-requires : tie.Need-put-field-requires
+put-field-requires c κs = simp length-take (omega arith)
+
+same-length : tie.Need-same-length
+same-length c = search needs
+
+returns : tie.Need-returns
+returns c =
+    let f = c .before .before in
+    let w = f .before .before .before .before .put-doubts .ensures in
+    let r = filed (w .0) (omega arith) (f .put-field .ensures) in
+    (r, omega (arith, w .0 .past, r .past))
+
+pub put-doubt-field-spec : {M : Type 1} → statement M
+put-doubt-field-spec =
+    tie.close
+    (tie.spec
+    slice-aggregate-put-doubts
+    put-doubts-requires
+    array-share-prefix-contents
+    slice-aggregate-put-field
+    put-field-requires
+    same-length
+    returns)
