@@ -43,7 +43,7 @@ pub struct Answer {
     pub more: bool,
 }
 
-// What start answers; with refusal 9 there is no table to use.
+// What start, or a reload, answers; with refusal 9 there is no table to use.
 pub struct Started {
     pub refusal: u8,
     pub table: Table,

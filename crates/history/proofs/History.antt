@@ -9,11 +9,13 @@ use mathlib.Core.Bool.{true, false}
 use mathlib.Core.List.{List, [], _∷_}
 use lib.Dec.{eqb}
 use borrow.Author.Tests.{eqb-true}
+use Rattle.history.proofs.Expiry.{expires}
 use Rattle.channels.specs.Some.{someOf}
 use Rattle.channels.specs.Channels.{among, permitted}
 use Rattle.channels.specs.declared.Pool.{Pool}
 use Rattle.channels.proofs.Cases.{by-test, clash}
-use Rattle.calls.specs.Calls.{holdsPair}
+use Rattle.channels.proofs.Lowest as lowest
+use Rattle.calls.specs.Calls.{holdsPair, heldOf}
 use Rattle.effects.specs.declared.Table.{Table}
 use Rattle.control.specs.Happens.{Event, happens, after}
 use Rattle.safety.specs.Sound.{Sound, AllInOctets}
@@ -54,6 +56,8 @@ only-permitted t s p v not-ok =
 pub history : History
 history = record {
   told = λ b accepted es octets p v ok. told-from _ (begun-sound b accepted) es octets p v ok _ refl;
+  not-given = λ t p v doubt given. clash doubt ((lowest.free-permitted (heldOf (t .slots .all) .entries) (t .doubts .entries) (t .pool) p v given) .2);
+  expiry = λ t r. expires t (reached-sound t r);
   fresh = λ ranges pairs p v. refl;
   never-two = λ t r p v held doubt. (reached-sound t r) .doubt-not-held p v doubt held;
   only-permitted = λ t r. only-permitted t (reached-sound t r);

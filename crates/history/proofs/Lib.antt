@@ -2,4 +2,5 @@ pub mod Marks
 pub mod Acknowledged
 pub mod Verdicts
 pub mod Steps
+pub mod Expiry
 pub mod History

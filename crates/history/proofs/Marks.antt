@@ -2,17 +2,20 @@
 --   flagged-none, flagged-at, flagged-apart    no flag; the flag of one slot; flags of slots that do not pass
 --   some-set                                   a slot is set to one that passes as the old one did
 --   some-emptied, none-emptied                 slots are emptied that do not pass, or all that do
+--   all-told      the answer to a RESTART says that they are gone
 -- Assumes nothing.
 use Prim.Native.Nat.{ℕ, zero, suc}
 use mathlib.Core.Path.{_≡_, refl, sym, ap}
-use mathlib.Core.Bool.{Bool, true, false, _||_, or-false}
+use mathlib.Core.Bool.{Bool, true, false, cond, _&&_, _||_, and-false, or-false, or-true}
 use mathlib.Core.List.{List, [], _∷_, map}
 use native.Mathlib.Omega.{arith}
+use lib.Dec.{eqb}
 use lib.ListN.{length, getD, set, replicate}
 use Rattle.channels.specs.Some.{someOf}
 use Rattle.channels.proofs.Cases.{by-test, clash}
 use Rattle.calls.specs.declared.Slot.{Slot}
 use Rattle.calls.specs.Calls.{noSlot, emptied}
+use Rattle.effects.specs.Effect.{isSet}
 use Rattle.history.specs.History.{flaggedOn}
 
 module _ (q : Slot → Bool) where
@@ -52,3 +55,17 @@ module _ (q : Slot → Bool) where
           by-test (r s)
           (λ y. rw (y, empty) (none-emptied h ss))
           (λ n. by-test (q s) (λ a. clash (h s a) n) (λ b. rw (n, b) (none-emptied h ss)))
+
+-- where every slot that passes q passes m too, the flags of m say of q what the slots say
+flags-say : (q m : Slot → Bool) → ((x : Slot) → q x ≡ true → m x ≡ true) → (ss : List Slot) → flaggedOn q (map m ss) ss ≡ someOf q ss
+flags-say q m passes [] = refl
+flags-say q m passes (x ∷ ss) = by-test (q x) (λ y. rw (y, passes x y)) (λ n. rw (n, and-false (m x)) (flags-say q m passes ss))
+
+some-flag : (q m : Slot → Bool) → ((x : Slot) → q x ≡ true → m x ≡ true) → (ss : List Slot) → someOf q ss ≡ true → someOf isSet (map m ss) ≡ true
+some-flag q m passes [] e = clash e refl
+some-flag q m passes (x ∷ ss) e = by-test (q x) (λ y. rw (passes x y)) (λ n. rw (some-flag q m passes ss (rw n at e)) (or-true (m x)))
+
+-- the answer to a RESTART says that they are gone
+pub all-told : (q m : Slot → Bool) → ((x : Slot) → q x ≡ true → m x ≡ true) → (ss : List Slot) → someOf q ss ≡ true
+    → (eqb (cond (someOf isSet (map m ss)) 3 0) 3 && flaggedOn q (map m ss) ss) ≡ true
+all-told q m passes ss some = rw (some-flag q m passes ss some, flags-say q m passes ss) some

@@ -13,6 +13,9 @@ use lib.Dec.{eqb, ltb}
 use lib.ListN.{length, set, length-set}
 use lib.Seq.{getD-set-same, getD-set-other}
 use borrow.Author.Tests.{eqb-true, eqb-false}
+use Rattle.octets.specs.Octets.{equal}
+use Rattle.channels.proofs.Lowest as lowest
+use Rattle.calls.proofs.Calls.{held-holds}
 use Rattle.channels.specs.Some.{someOf}
 use Rattle.channels.specs.Channels.{among, permitted, permanent, knownVpci}
 use Rattle.channels.specs.Doubts.{doubtRoom}
@@ -32,7 +35,7 @@ use Rattle.calls.specs.declared.Slot.{Slot}
 use Rattle.calls.specs.declared.Found.{Found}
 use Rattle.calls.specs.declared.Found.the-variants.{Nothing, At}
 use Rattle.calls.specs.First.{place}
-use Rattle.calls.specs.Calls.{noSlot, isEmpty, isLive, isCall, onPair as pairHeld, holdsPair, unusedReference, gone}
+use Rattle.calls.specs.Calls.{noSlot, isEmpty, isLive, isCall, onPair as pairHeld, holdsPair, unusedReference, gone, heldOf}
 use Rattle.calls.specs.Timers.{nextDue}
 use Rattle.calls.proofs.First.{placed}
 use Rattle.header.specs.declared.Header.{Header}
@@ -74,7 +77,7 @@ use Rattle.safety.proofs.Tables.{on-pair, live-within, empty-at}
 use Rattle.safety.proofs.Refusals.{refusalOf}
 use Rattle.safety.proofs.FixedAnswers.{outcomeOf, happens-unless}
 use Rattle.history.specs.History.{wayIn, flaggedOn, assigned, ended, lastOn, isTick, expired, restarted, nextWay}
-use Rattle.history.proofs.Marks.{flagged-at, flagged-apart, some-set, some-emptied, none-emptied}
+use Rattle.history.proofs.Marks.{flagged-at, flagged-apart, some-set, some-emptied, none-emptied, all-told}
 use Rattle.history.proofs.Acknowledged.{saysRestarted, Other, not-acknowledged, setup-not-acknowledged, acknowledged, all-acknowledged, other-pair, ReadFits, connection-fits}
 use Rattle.history.proofs.Verdicts.{Decided, stays, turns, ends, judged-decided, no-call-other, global-other}
 
@@ -130,17 +133,27 @@ module _ (t : Table) (s : Sound t) (p v : ℕ) (ok : permitted (t .pool) p v ≡
 
     same-steps : assigned o p v ≡ false → expired t e o p v ≡ false → ended t o p v ≡ false → restarted o p v ≡ false
         → held-after ≡ someOf has-it ss → doubted-after ≡ among p v (t .doubts .entries) → Steps e o
-    same-steps a x n r h d = rw (a, x, n, r, h, d)
+    same-steps a x n r h d =
+        by-test (someOf has-it ss)
+        (λ y. rw (h, y, x, n))
+        (λ z. by-test (among p v (t .doubts .entries)) (λ y. rw (h, z, d, y, r)) (λ f. rw (h, z, d, f, a)))
 
-    held-steps : assigned o p v ≡ true → held-after ≡ true → Steps e o
-    held-steps a h = rw (a, h)
+    held-steps : someOf has-it ss ≡ false → among p v (t .doubts .entries) ≡ false → assigned o p v ≡ true → held-after ≡ true → Steps e o
+    held-steps b f a h = rw (b, f, a, h)
 
-    doubt-steps : assigned o p v ≡ false → expired t e o p v ≡ true → held-after ≡ false → doubted-after ≡ true → Steps e o
-    doubt-steps a x h d = rw (a, x, h, d)
+    doubt-steps : someOf has-it ss ≡ true → expired t e o p v ≡ true → held-after ≡ false → doubted-after ≡ true → Steps e o
+    doubt-steps b x h d = rw (b, x, h, d)
 
-    free-steps : assigned o p v ≡ false → expired t e o p v ≡ false → (ended t o p v || restarted o p v) ≡ true → held-after ≡ false
-        → doubted-after ≡ false → Steps e o
-    free-steps a x n h d = rw (a, x, n, h, d)
+    ended-steps : someOf has-it ss ≡ true → expired t e o p v ≡ false → ended t o p v ≡ true → held-after ≡ false → doubted-after ≡ false → Steps e o
+    ended-steps b x n h d = rw (b, x, n, h, d)
+
+    -- a RESTART of the pair: its call is gone, or its doubt ends, or it was free
+    free-steps : assigned o p v ≡ false → expired t e o p v ≡ false → restarted o p v ≡ true → (someOf has-it ss ≡ true → ended t o p v ≡ true)
+        → held-after ≡ false → doubted-after ≡ false → Steps e o
+    free-steps a x r gone h d =
+        by-test (someOf has-it ss)
+        (λ y. ended-steps y x (gone y) h d)
+        (λ z. by-test (among p v (t .doubts .entries)) (λ y. rw (h, z, d, y, r)) (λ f. rw (h, z, d, f, a)))
 
   -- The pair of a call.
 
@@ -221,7 +234,7 @@ module _ (t : Table) (s : Sound t) (p v : ℕ) (ok : permitted (t .pool) p v ≡
       ends-steps none =
           let o = sent (onSlot (t .slots) i flag r (endedWith a)) in
           by-test (has-it (slotAt t i))
-          (λ y. free-steps e o refl (not-last none) (rw (flag-says has-it refl ∙ y)) (lone i below y) (not-doubted i y))
+          (λ y. ended-steps e o (some-at has-it noSlot ss i below y) (not-last none) (flag-says has-it refl ∙ y) (lone i below y) (not-doubted i y))
           (λ n. same-steps e o refl (not-last none) (flag-says has-it refl ∙ n) (not-acknowledged p v flag r a other)
           (some-set has-it ss i noSlot (sym n))
           refl)
@@ -235,7 +248,7 @@ module _ (t : Table) (s : Sound t) (p v : ℕ) (ok : permitted (t .pool) p v ≡
           by-test (pairHeld p v (Live c))
           (λ y.
           let at : has-it (slotAt t i) ≡ true = rw live y in
-          doubt-steps e o refl (rw (ticks, on, y)) (lone i below at) (doubts ∙ rw y))
+          doubt-steps e o (some-at has-it noSlot ss i below at) (rw (ticks, on, y)) (lone i below at) (doubts ∙ rw y))
           (λ n.
           let at : has-it (slotAt t i) ≡ false = rw live n in
           same-steps e o refl (rw (ticks, on, n)) (flag-says has-it refl ∙ at) (not-acknowledged p v flag r a other)
@@ -256,8 +269,8 @@ module _ (t : Table) (s : Sound t) (p v : ℕ) (ok : permitted (t .pool) p v ≡
 
     -- a call put into slot i
     assigned-steps : (i : ℕ) → place isEmpty ss ≡ At i → (flag : Bool) (r : ℕ) (c : Call) (a : Reply) (octets : List ℕ)
-        → saysRestarted octets p v ≡ false → Steps e (sending t reading (assigning (t .slots) i flag r c a) false octets)
-    assigned-steps i found flag r c a octets other =
+        → freePair t ≡ Pair (c .vpci) (c .vci) → saysRestarted octets p v ≡ false → Steps e (sending t reading (assigning (t .slots) i flag r c a) false octets)
+    assigned-steps i found flag r c a octets lowest-one other =
         let new : Slot = record { hold = Live c } in
         let at = placed isEmpty noSlot ss i found in
         let size : length (set ss i new) ≡ slotCount = length-set ss i new ∙ s .has-slots in
@@ -266,7 +279,12 @@ module _ (t : Table) (s : Sound t) (p v : ℕ) (ok : permitted (t .pool) p v ≡
         flagged-at has-it refl slotCount i (set ss i new) size ∙ ap has-it here in
         let o = sending t reading (assigning (t .slots) i flag r c a) false octets in
         by-test (pairHeld p v (Live c))
-        (λ y. held-steps e o (on ∙ y) (some-at has-it noSlot (set ss i new) i (rw (length-set ss i new) (at .below)) (ap has-it here ∙ y)))
+        (λ y.
+        let pair = on-pair p v c y in
+        let unused = lowest.free-permitted (heldOf ss .entries) (t .doubts .entries) (t .pool) (c .vpci) (c .vci) lowest-one in
+        let not-held : someOf has-it ss ≡ false = sym (held-holds p v ss) ∙ rw (← pair .vpci, ← pair .vci) (unused .1) in
+        let not-in-doubt : among p v (t .doubts .entries) ≡ false = rw (← pair .vpci, ← pair .vci) (unused .2) in
+        held-steps e o not-held not-in-doubt (on ∙ y) (some-at has-it noSlot (set ss i new) i (rw (length-set ss i new) (at .below)) (ap has-it here ∙ y)))
         (λ n. same-steps e o (on ∙ n) (and-false (isTick e)) refl other
         (some-set has-it ss i new (n ∙ ap has-it (sym (empty-at t i (at .passes)))))
         refl)
@@ -291,7 +309,8 @@ module _ (t : Table) (s : Sound t) (p v : ℕ) (ok : permitted (t .pool) p v ≡
         (λ y.
         let same = both (eqb q p) (eqb w v) y in
         let named : restarted o p v ≡ true = rw (eqb-true q p (same .0), eqb-true w v (same .1)) (acknowledged p v) in
-        free-steps heard o unasked refl (rw named (or-true (ended t o p v)))
+        free-steps heard o unasked refl named
+        (λ some. all-told has-it (holdsPair q w) (λ x h. rw (eqb-true q p (same .0), eqb-true w v (same .1)) h) ss some)
         (none-emptied has-it refl (holdsPair q w) (λ x h. rw (eqb-true q p (same .0), eqb-true w v (same .1)) h) ss)
         (doubts ∙ rw y))
         (λ n.
@@ -306,7 +325,9 @@ module _ (t : Table) (s : Sound t) (p v : ℕ) (ok : permitted (t .pool) p v ≡
     restarted-all =
         let x = afterGone (gone isLive ss) EndAll true reply.RestartAcknowledgeAll in
         let o = sending t reading x false (effectReply x) in
-        free-steps heard o (gone-not-asked (someOf isSet (map isLive ss)) _) refl (rw (all-acknowledged p v) (or-true (ended t o p v)))
+        free-steps heard o (gone-not-asked (someOf isSet (map isLive ss)) _) refl
+        (rw (all-acknowledged p v) (or-true (equal (effectReply x) (replyOctets true 0 (reply.RestartAcknowledge p v)))))
+        (λ some. all-told has-it isLive (λ x h. held-live p v (x .hold) h) ss some)
         (none-emptied has-it refl isLive (λ x h. held-live p v (x .hold) h) ss)
         (none-among doubtRoom p v)
 
@@ -334,15 +355,15 @@ module _ (t : Table) (s : Sound t) (p v : ℕ) (ok : permitted (t .pool) p v ≡
         (by-cond Receives (h .whole) _ _ (restart-steps (restartIn m 9) (connectionIn m 9) fit) (quiet-steps heard reading))
         (replying-steps heard reading (not (h .flag)) 0 (globalReply h) (global-other h))
 
-    pair-steps : (r i : ℕ) (c : Channel) → place isEmpty ss ≡ At i → Receives (onPair t r i c)
-    pair-steps r i None found = replying-steps heard reading true r (reply.ReleaseCompleteWith (plainCause 45)) refl
-    pair-steps r i (Pair q w) found =
-        assigned-steps heard reading i found true r (userCall r q w) (reply.CallProceeding q w) (replyOctets true r (reply.CallProceeding q w))
+    pair-steps : (r i : ℕ) (c : Channel) → freePair t ≡ c → place isEmpty ss ≡ At i → Receives (onPair t r i c)
+    pair-steps r i None lowest-one found = replying-steps heard reading true r (reply.ReleaseCompleteWith (plainCause 45)) refl
+    pair-steps r i (Pair q w) lowest-one found =
+        assigned-steps heard reading i found true r (userCall r q w) (reply.CallProceeding q w) (replyOctets true r (reply.CallProceeding q w)) lowest-one
         (not-acknowledged p v true r (reply.CallProceeding q w) refl)
 
     admitted-steps : (r : ℕ) (f : Found) → place isEmpty ss ≡ f → Receives (admitted t r f)
     admitted-steps r Nothing found = replying-steps heard reading true r (reply.ReleaseCompleteWith (plainCause 47)) refl
-    admitted-steps r (At i) found = pair-steps r i (freePair t) found
+    admitted-steps r (At i) found = pair-steps r i (freePair t) refl found
 
     setup-steps : (r : ℕ) (a : Admission) → Receives (setupEffect t r a)
     setup-steps r (Refused c) = replying-steps heard reading true r (reply.ReleaseCompleteWith c) refl
@@ -418,16 +439,16 @@ module _ (t : Table) (s : Sound t) (p v : ℕ) (ok : permitted (t .pool) p v ≡
     abbrev offers : Event
     offers = offer label reading room body
 
-    offered-on-steps : (i : ℕ) (c : Channel) → place isEmpty ss ≡ At i → Steps offers (offeredOn t reading body i c)
-    offered-on-steps i None found = refused-steps offers reading 12
-    offered-on-steps i (Pair q w) found =
+    offered-on-steps : (i : ℕ) (c : Channel) → freePair t ≡ c → place isEmpty ss ≡ At i → Steps offers (offeredOn t reading body i c)
+    offered-on-steps i None lowest-one found = refused-steps offers reading 12
+    offered-on-steps i (Pair q w) lowest-one found =
         let new = unusedReference ss in
-        assigned-steps offers reading i found false new (networkCall reading new q w) reply.None (setupOctets new q w body)
+        assigned-steps offers reading i found false new (networkCall reading new q w) reply.None (setupOctets new q w body) lowest-one
         (setup-not-acknowledged p v new q w body)
 
     offered-steps : (f : Found) → place isEmpty ss ≡ f → Steps offers (offered t reading body f)
     offered-steps Nothing found = refused-steps offers reading 11
-    offered-steps (At i) found = offered-on-steps i (freePair t) found
+    offered-steps (At i) found = offered-on-steps i (freePair t) refl found
 
   outcome-steps : (e : Event) → InOctets e → Steps e (outcomeOf t e)
   outcome-steps (message label reading room m) octets = head-steps label reading room m (headOf m) (connection-fits m octets)

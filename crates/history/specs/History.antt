@@ -6,7 +6,8 @@
 --   lastHold, lastOn, isTick   a slot's second T308 runs, on a certain pair; an event is a tick
 --   expired                    a tick ended it, and its second T308 ran
 --   restarted                  an answer is RESTART ACKNOWLEDGE for the pair, or for all
---   nextWay, wayAfter          how the pair stands after an event, and after a list of them, told from events, answers and tables
+--   turned, nextWay, wayAfter  how the pair stands after an event, and after a list of them, told from events, answers and tables
+--   Expiry                     what a second T308 expiry does
 --   History                    the statement
 -- Assumes nothing.
 use Prim.Native.Nat.{ℕ}
@@ -17,20 +18,36 @@ use lib.Dec.{eqb}
 use Rattle.octets.specs.Octets.{equal}
 use Rattle.channels.specs.Some.{someOf}
 use Rattle.channels.specs.Channels.{among, permitted}
+use Rattle.channels.specs.Doubts.{isFull}
+use Rattle.channels.specs.declared.Channel.the-variants.{Pair}
+use Rattle.calls.specs.declared.Phase.{Phase}
+use Rattle.calls.specs.declared.Phase.the-variants.{N3, N6, N9, N10, N12}
+use Rattle.calls.specs.declared.Call.{Call}
+use Rattle.calls.specs.declared.Found.the-variants.{At}
+use Rattle.calls.specs.Timers.{nextDue}
 use Rattle.calls.specs.declared.Hold.{Hold}
 use Rattle.calls.specs.declared.Hold.the-variants.{Empty, Live}
 use Rattle.calls.specs.declared.Slot.{Slot}
-use Rattle.calls.specs.Calls.{holdsPair}
+use Rattle.calls.specs.Calls.{noSlot, moved, holdsPair}
 use Rattle.replies.specs.declared.Reply.the-variants.{RestartAcknowledge, RestartAcknowledgeAll}
 use Rattle.replies.specs.Reply.{replyOctets}
-use Rattle.judging.specs.Judge.{lastT308}
+use Rattle.judging.specs.Judge.{clearing, lastT308}
 use Rattle.effects.specs.declared.Table.{Table}
+use Rattle.effects.specs.Effects.{freePair}
 use Rattle.control.specs.Outcome.{Outcome}
 use Rattle.control.specs.Events.{startOf}
 use Rattle.control.specs.Happens.{Event, message, tick, connect, clear, offer, happens, after}
 use Rattle.reload.specs.Reached.{Beginning, begun, Reached}
-use Rattle.safety.specs.Tables.{Holds, InDoubt}
+use Rattle.safety.specs.Tables.{slotAt, HasCall, Holds, InDoubt}
 use Rattle.safety.specs.Sound.{AllInOctets}
+
+-- T308 runs again
+abbrev pub again : ℕ → Phase → Phase
+again reading N3 = N3
+again reading (N6 d) = N6 d
+again reading (N9 d) = N9 d
+again reading N10 = N10
+again reading (N12 k) = clearing reading true (k .cause) (k .expired)
 
 pub data Way : Type 0 where
   free : Way
@@ -81,20 +98,44 @@ restarted o p v =
     equal (o .reply) (replyOctets true 0 (RestartAcknowledge p v)) || equal (o .reply) (replyOctets true 0 RestartAcknowledgeAll)
 
 -- "held from assignment until its call ends, in doubt from such an expiry until a RESTART ends it, free otherwise"
+abbrev pub turned : Bool → Bool → Bool → Bool → Way → Way
+turned isAssigned isExpired isEnded isRestarted free = cond isAssigned held free
+turned isAssigned isExpired isEnded isRestarted held = cond isExpired doubtful (cond isEnded free held)
+turned isAssigned isExpired isEnded isRestarted doubtful = cond isRestarted free doubtful
+
 abbrev pub nextWay : Table → Event → Outcome → ℕ → ℕ → Way → Way
-nextWay t e o p v w =
-    cond (assigned o p v) held
-    (cond (expired t e o p v) doubtful
-    (cond (ended t o p v || restarted o p v) free w))
+nextWay t e o p v w = turned (assigned o p v) (expired t e o p v) (ended t o p v) (restarted o p v) w
 
 abbrev pub wayAfter : Table → List Event → ℕ → ℕ → Way → Way
 wayAfter t [] p v w = w
 wayAfter t (e ∷ es) p v w = wayAfter (happens t e .answer .table) es p v (nextWay t e (happens t e) p v w)
 
+-- "on the second T308 expiry": an accepted tick fires the timer of slot i, whose call's second T308 runs
+pub record Fires (t : Table) (label reading room i : ℕ) (c : Call) : Type 0 where
+  pub accepted : happens t (tick label reading room) .answer .refusal ≡ 0
+  pub due : nextDue reading (t .slots .all) ≡ At i
+  pub live : HasCall t i c
+  pub last : lastT308 (c .phase) ≡ true
+
+pub record Expiry (t : Table) : Type 0 where
+  -- "Now the pair is in doubt, not free; the slot is empty, notice 3."
+  pub begins-doubt : (label reading room i : ℕ) (c : Call) → Fires t label reading room i c → isFull (t .doubts .entries) ≡ false
+      → let o = happens t (tick label reading room) in
+      (slotAt (o .answer .table) i ≡ noSlot) × (InDoubt (o .answer .table) (c .vpci) (c .vci)) × (o .answer .notice ≡ 3) × (o .reply ≡ [])
+  -- "with 64, a second expiry keeps the call in N12 and starts T308 again, sending nothing"
+  pub waits : (label reading room i : ℕ) (c : Call) → Fires t label reading room i c → isFull (t .doubts .entries) ≡ true
+      → let o = happens t (tick label reading room) in
+      (slotAt (o .answer .table) i ≡ record { hold = Live (moved c (again reading (c .phase))) }) × (o .answer .table .doubts ≡ t .doubts)
+      × (o .answer .notice ≡ 0) × (o .reply ≡ [])
+
 pub record History : Type 0 where
   -- from how it stood at the beginning, the events and their answers tell how each permitted pair stands; "reloaded pairs go on as they were"
   pub told : (b : Beginning) → begun b .refusal ≡ 0 → (es : List Event) → AllInOctets es → (p v : ℕ) → permitted (begun b .table .pool) p v ≡ true
       → wayIn (after (begun b .table) es) p v ≡ wayAfter (begun b .table) es p v (wayIn (begun b .table) p v)
+  -- a pair in doubt is given to no call
+  pub not-given : (t : Table) (p v : ℕ) → InDoubt t p v → freePair t ≡ Pair p v → ⊥
+  -- every second expiry, of a reached table
+  pub expiry : (t : Table) → Reached t → Expiry t
   -- at a start every pair is free
   pub fresh : (ranges pairs : List ℕ) (p v : ℕ) → wayIn (startOf ranges pairs .table) p v ≡ free
   -- "never two ways"

@@ -42,7 +42,7 @@ abbrev pub numbersIn : List ℕ → ℕ → List ℕ
 numbersIn f zero = []
 numbersIn f (suc n) = twoAt f 0 ∷ numbersIn (drop 2 f) n
 
--- as many numbers as the contents have room for, but no more than a list of start can have
+-- as many numbers as the contents have room for, but no more than the list can have
 abbrev pub least : ℕ → ℕ → ℕ
 least a b = cond (ltb a b) a b
 

@@ -5,4 +5,7 @@
 //   proofs/Lists.antt          the lists of start
 //   proofs/Calls.antt          the calls
 //   proofs/Tables.antt         the whole table
+//   proofs/Doubtful.antt       the pairs in doubt
+//   proofs/Kept.antt           a sound table keeps the reader's rules
+//   proofs/Roundtrip.antt      the statement, proved
 // Assumes nothing.

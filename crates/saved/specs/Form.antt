@@ -2,7 +2,7 @@
 --   two, eight                    a number in two octets, and in eight, high octet first
 --   field                         a tag, the length of the contents, the contents
 --   joined                        the octets of each element of a list, one behind the other
---   rangeOctets, channelOctets    a permitted range, a permanent pair
+--   rangeOctets, channelOctets    a permitted range; a permanent pair, or one in doubt
 --   referenceOctets, phaseOctets, callOctets     a live call
 --   callFields                    one field for each live call, in slot order
 --   formOf                        the form of a table
