@@ -1,9 +1,14 @@
--- Cases of a choice, and of a side.
---   by-cond       either value of a choice
---   beq-same      a side is itself
+-- Cases of a choice, of a side, and of two tests.
+--   by-cond            either value of a choice
+--   beq-same           a side is itself
+--   either, neither    one of two tests passes, and none does
+--   one-place          a place that is found is one place
 -- Assumes nothing.
+use Prim.Native.Nat.{ℕ}
 use mathlib.Core.Path.{_≡_, refl}
-use mathlib.Core.Bool.{Bool, true, false, cond, Bool·beq}
+use mathlib.Core.Bool.{Bool, true, false, cond, _||_, Bool·beq}
+use Rattle.channels.proofs.Cases.{clash}
+use Rattle.calls.specs.declared.Found.the-variants.{At}
 
 pub by-cond : {A : Type 0} (P : A → Type 0) (b : Bool) (x y : A) → P x → P y → P (cond b x y)
 by-cond P true x y a b = a
@@ -12,3 +17,14 @@ by-cond P false x y a b = b
 pub beq-same : (b : Bool) → Bool·beq b b ≡ true
 beq-same true = refl
 beq-same false = refl
+
+pub either : {P : Type 0} (a b : Bool) → (a || b) ≡ true → (a ≡ true → P) → (b ≡ true → P) → P
+either true b e f g = f refl
+either false b e f g = g e
+
+pub neither : (a b : Bool) → (a || b) ≡ false → (a ≡ false) × (b ≡ false)
+neither true b e = clash refl e
+neither false b e = (refl, e)
+
+pub one-place : (i j : ℕ) → At i ≡ At j → i ≡ j
+one-place i j h = cc

@@ -57,7 +57,7 @@ use Rattle.control.specs.Events.{heardBy, connected, cleared, offeredOn, offere
 use Rattle.control.specs.Happens.{Event, message, tick, connect, clear, offer}
 use Rattle.safety.specs.Tables.{slotAt, HasCall, Holds, InDoubt}
 use Rattle.safety.specs.Sound.{Sound}
-use Rattle.safety.proofs.Cases.{by-cond}
+use Rattle.safety.proofs.Cases.{by-cond, either}
 use Rattle.safety.proofs.Tables.{not-live, live-within}
 use Rattle.safety.proofs.FixedAnswers.{outcomeOf}
 use Rattle.safety.proofs.Changes.{SameCall, Comes, old, new, Change, Doubted, keeps, ends, ends-all, begins}
@@ -177,10 +177,6 @@ outcome-doubted t (offer label reading room body) = offered-doubted t reading bo
 
 is-pair : (p v q w : ℕ) → isEntry q w (pairEntry p v) ≡ true → (p ≡ q) × (v ≡ w)
 is-pair p v q w e = let a = both (eqb p q) (eqb v w) e in (eqb-true p q (a .0), eqb-true v w (a .1))
-
-either : {P : Type 0} (a b : Bool) → (a || b) ≡ true → (a ≡ true → P) → (b ≡ true → P) → P
-either true b e f g = f refl
-either false b e f g = g e
 
 module _ (t : Table) (e : Event) (s : Sound t) (u : Table) (change : Change t e (u .slots .all)) (pool : u .pool ≡ t .pool) where
   abbrev es : List Entry

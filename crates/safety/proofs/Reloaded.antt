@@ -42,6 +42,7 @@ use Rattle.reload.specs.Reading.{rangeNumbers, pairNumbers, rest, behindSlot, s
 use Rattle.reload.specs.Reload.{phaseKept, isAt, callKept, slotKept, allBelow, isForm, reloadIn, reloadOf, channelLost, isLost, doubtsKept}
 use Rattle.safety.specs.Tables.{HasSlots, HasCall}
 use Rattle.safety.specs.Sound.{PhaseSound, in-N3, in-N6, in-N9, in-N10, by-host, by-timer, CallSound, Sound}
+use Rattle.safety.proofs.Cases.{neither, one-place}
 use Rattle.safety.proofs.Tables.{live-within, held-some}
 
 length-numbered : {A : Type 0} (f : ℕ → A) (k n : ℕ) → length (numbered f k n) ≡ n
@@ -52,10 +53,6 @@ pub slots-counted : (slot n : ℕ) (f : List ℕ) → length (slotsIn slot f n) 
 unfolding slotsIn
 slots-counted slot zero f = refl
 slots-counted slot (suc n) f = ap suc (slots-counted (slot + 1) n (behindSlot slot f))
-
-neither : (a b : Bool) → (a || b) ≡ false → (a ≡ false) × (b ≡ false)
-neither true b e = clash refl e
-neither false b e = (refl, e)
 
 below-at : (p : ℕ → Bool) (n i : ℕ) → allBelow p n ≡ true → i < n → p i ≡ true
 unfolding allBelow
@@ -166,9 +163,6 @@ kept-sound t rs ps size high pool room doubts kept = record {
   doubt-not-held = λ p v h k. clash (held-some t p v k) ((kept-doubt t p v (t .doubts .entries) ((both (tidy (t .doubts .entries)) _ doubts) .1) h) .1);
 }
   where
-    one-place : (i j : ℕ) → At i ≡ At j → i ≡ j
-    one-place i j h = cc
-
     numbers : (p v : ℕ) → permitted (t .pool) p v ≡ true → (p ≤ 255) × (32 ≤ v) × (v ≤ 65535)
     numbers p v h =
         let k = provision-pair rs ps p v ((both (inRanges p v (provision rs ps .pool .ranges)) _ (rw pool at h)) .0) in

@@ -42,7 +42,7 @@ use Rattle.safety.proofs.Changes.{NewCall, Comes, old, new, Change}
 use Rattle.safety.proofs.Happenings.{accepted-reading, outcome-change}
 use Rattle.safety.proofs.Reloaded.{reload-sound}
 use Rattle.safety.proofs.Lists.{getD-replicate-default}
-use Rattle.safety.proofs.Cases.{beq-same}
+use Rattle.safety.proofs.Cases.{beq-same, one-place}
 
 module _ (t : Table) (e : Event) (c : Call) (n : NewCall t e c) where
   new-permitted : permitted (t .pool) (c .vpci) (c .vci) ≡ true
@@ -81,9 +81,6 @@ module _ (t : Table) (e : Event) (s : Sound t) (u : Table) (change : Change t e 
         not-global = n .not-global;
         phase-sound = rw last (n .phase);
       }
-
-  one-place : (i j : ℕ) → At i ≡ At j → i ≡ j
-  one-place i j h = cc
 
   pair-once : (i j : ℕ) (c d : Call) → Comes t e i c → Comes t e j d → c .vpci ≡ d .vpci → c .vci ≡ d .vci → i ≡ j
   pair-once i j c d (old c₀ h same f) (old d₀ h′ same′ f′) p v =

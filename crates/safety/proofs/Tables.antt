@@ -33,7 +33,7 @@ use Rattle.effects.specs.Effects.{freePair}
 use Rattle.safety.specs.Tables.{HasSlots, slotAt, HasCall, NoneEmpty, OnPair, Holds, InDoubt, NoneFree}
 use Rattle.safety.specs.NoPair.{NoSuchCall}
 use Rattle.safety.proofs.Lists.{some-found, passes-within}
-use Rattle.safety.proofs.Cases.{beq-same}
+use Rattle.safety.proofs.Cases.{beq-same, either}
 
 -- an empty slot holds no call
 pub not-live : {P : Type 0} (c : Call) → Empty ≡ Live c → P
@@ -58,10 +58,6 @@ pair-on p v c o = rw (eq-eqb _ _ (o .vpci), eq-eqb _ _ (o .vci))
 hold-on : (p v : ℕ) (h : Hold) → onPair p v h ≡ true → (c : Call) × ((h ≡ Live c) × OnPair p v c)
 hold-on p v Empty e = clash e refl
 hold-on p v (Live c) e = (c, (refl, on-pair p v c e))
-
-either : {P : Type 0} (a b : Bool) → (a || b) ≡ true → (a ≡ true → P) → (b ≡ true → P) → P
-either true b e f g = f refl
-either false b e f g = g e
 
 module _ (t : Table) where
   pub holds-at : (i p v : ℕ) (c : Call) → HasCall t i c → OnPair p v c → holdsPair p v (slotAt t i) ≡ true
