@@ -5,7 +5,7 @@
 use Prim.Native.Nat.{ℕ}
 use mathlib.Core.List.{List, [], _∷_}
 use Rattle.effects.specs.declared.Table.{Table}
-use Rattle.control.specs.Outcome.{Outcome}
+use Rattle.outcome.specs.Outcome.{Outcome}
 use Rattle.control.specs.Events.{messageOf, tickOf, connectOf, clearOf, offerOf}
 
 -- label, reading and the length of the reply room; then what the event carries

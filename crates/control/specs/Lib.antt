@@ -1,4 +1,2 @@
-pub mod Refusals
-pub mod Outcome
 pub mod Events
 pub mod Happens

@@ -20,8 +20,9 @@ use Rattle.readback.specs.Replies.{setupMeant}
 use Rattle.effects.specs.declared.Effect.{Effect}
 use Rattle.effects.specs.declared.Table.{Table}
 use Rattle.effects.specs.Effects.{freePair, tickEffect}
-use Rattle.control.specs.Refusals.{holdAt}
-use Rattle.control.specs.Events.{heardBy, connected, cleared}
+use Rattle.outcome.specs.Refusals.{holdAt}
+use Rattle.commands.specs.Commands.{connected, cleared}
+use Rattle.control.specs.Events.{heardBy}
 use Rattle.control.specs.Happens.{Event, message, tick, connect, clear, offer, happens}
 
 pub data Sent : Type 0 where

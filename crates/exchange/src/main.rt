@@ -1,8 +1,8 @@
 // Reads an event script from standard input, and writes one answer line for each event.
 use calls::Flags;
-use control::Answer;
-use control::Started;
 use effects::Table;
+use outcome::Answer;
+use outcome::Started;
 use saved::Saved;
 use script::Clock;
 use script::Line;

@@ -35,7 +35,7 @@ use Rattle.effects.specs.declared.Effect.{Effect}
 use Rattle.effects.specs.declared.Table.{Table}
 use Rattle.effects.specs.Effect.{fated, onSlot, doubting}
 use Rattle.effects.specs.Effects.{noRoom, doubtOf, fireHold, fired, tickEffect}
-use Rattle.control.specs.Outcome.{Outcome, sending, effectReply}
+use Rattle.outcome.specs.Outcome.{Outcome, sending, effectReply}
 use Rattle.control.specs.Happens.{tick, happens}
 use Rattle.safety.specs.Tables.{slotAt, HasCall, InDoubt}
 use Rattle.safety.specs.Sound.{Sound}

@@ -65,9 +65,10 @@ use Rattle.effects.specs.declared.Table.{Table}
 use Rattle.effects.specs.Effect.{slotCount, turnedHold, flagsAt, replying, onSlot, assigned as assigning, afterGone, doubting, isSet}
 use Rattle.effects.specs.Restart.{restartStatus, pairRestart, restartEffect}
 use Rattle.effects.specs.Effects.{freePair, userCall, onPair, admitted, setupEffect, onNoCall, onHold, addressed, globalEffect, noRoom, fireHold, fired}
-use Rattle.control.specs.Refusals.{holdAt}
-use Rattle.control.specs.Outcome.{Outcome, sending, refusedWith, effectReply}
-use Rattle.control.specs.Events.{heardBy, connected, cleared, networkCall, offeredOn, offered}
+use Rattle.outcome.specs.Refusals.{holdAt}
+use Rattle.outcome.specs.Outcome.{Outcome, sending, refusedWith, effectReply}
+use Rattle.commands.specs.Commands.{connected, cleared, networkCall, offeredOn}
+use Rattle.control.specs.Events.{heardBy, offered}
 use Rattle.control.specs.Happens.{Event, message, tick, connect, clear, offer, happens}
 use Rattle.safety.specs.Tables.{slotAt, HasCall, OnPair, Holds}
 use Rattle.safety.specs.Sound.{Sound, InOctets}

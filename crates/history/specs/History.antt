@@ -34,7 +34,7 @@ use Rattle.replies.specs.Reply.{replyOctets}
 use Rattle.judging.specs.Judge.{clearing, lastT308}
 use Rattle.effects.specs.declared.Table.{Table}
 use Rattle.effects.specs.Effects.{freePair}
-use Rattle.control.specs.Outcome.{Outcome}
+use Rattle.outcome.specs.Outcome.{Outcome}
 use Rattle.control.specs.Events.{startOf}
 use Rattle.control.specs.Happens.{Event, message, tick, connect, clear, offer, happens, after}
 use Rattle.reload.specs.Reached.{Beginning, begun, Reached}

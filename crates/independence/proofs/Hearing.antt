@@ -41,8 +41,8 @@ use Rattle.effects.specs.declared.Effect.{Effect}
 use Rattle.effects.specs.declared.Table.{Table}
 use Rattle.effects.specs.Effect.{replying, onSlot, fated, noFlags}
 use Rattle.effects.specs.Effects as effects
-use Rattle.control.specs.Refusals.{orElse, sizeRefusal, messageRefusal}
-use Rattle.control.specs.Outcome.{Outcome, acceptedAs, unlessRefused}
+use Rattle.outcome.specs.Refusals.{orElse, sizeRefusal, messageRefusal}
+use Rattle.outcome.specs.Outcome.{Outcome, acceptedAs, unlessRefused}
 use Rattle.control.specs.Events.{heardBy}
 use Rattle.independence.specs.Independence.{Heard, Given, givenBy, hear, AcceptedIn, headed, Qualifies}
 use Rattle.independence.proofs.Deeds.{Deed, given, perform, sight, still, onPair, admit, setUp, onNoCall, turned, onHold, decideAt, decide, decision, mine, groundOf}

@@ -19,8 +19,8 @@ use Rattle.header.specs.declared.Header.{Header}
 use Rattle.header.specs.declared.Head.the-variants.{Is}
 use Rattle.header.specs.Header.{headerIn, headOf}
 use Rattle.effects.specs.declared.Table.{Table}
-use Rattle.control.specs.Refusals.{largestReading}
-use Rattle.control.specs.Outcome.{Outcome}
+use Rattle.outcome.specs.Refusals.{largestReading}
+use Rattle.outcome.specs.Outcome.{Outcome}
 use Rattle.control.specs.Events.{messageOf}
 use Rattle.reload.specs.Reached.{Reached}
 

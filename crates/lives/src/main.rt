@@ -2,8 +2,8 @@
 // (SETUP, connect, CONNECT ACKNOWLEDGE, RELEASE) or 1 for a network-originated one (offer, CALL PROCEEDING, CONNECT,
 // clear, RELEASE COMPLETE); how many calls stand beside it; hundreds of lives; 1, 2 or 4 ranges. Writes the lengths
 // of all replies added up modulo 1,000,000.
-use control::Answer;
 use effects::Table;
+use outcome::Answer;
 ghost use Prim.Native.Nat.{_<_};
 
 // A SETUP on reference 0; its elements are an offer's body too.

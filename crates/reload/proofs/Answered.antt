@@ -10,8 +10,8 @@ use lib.Dec.{leb}
 use Rattle.octets.specs.Octets.{equal}
 use Rattle.provisioning.specs.Provisioning.{provision}
 use Rattle.effects.specs.declared.Table.{Table}
-use Rattle.control.specs.declared.Started.{Started}
-use Rattle.control.specs.Refusals.{largestReading}
+use Rattle.outcome.specs.declared.Started.{Started}
+use Rattle.outcome.specs.Refusals.{largestReading}
 use Rattle.control.specs.Events.{startOf}
 use Rattle.saved.specs.Form.{formOf}
 use Rattle.reload.specs.Reading.{rangeNumbers, pairNumbers, tableIn}

@@ -8,7 +8,7 @@ use mathlib.Core.Path.{_≡_}
 use mathlib.Core.List.{List}
 use lib.ListN.{getD}
 use Rattle.effects.specs.declared.Table.{Table}
-use Rattle.control.specs.declared.Started.{Started}
+use Rattle.outcome.specs.declared.Started.{Started}
 use Rattle.control.specs.Events.{startOf}
 use Rattle.control.specs.Happens.{Event, after}
 use Rattle.reload.specs.Reload.{reloadOf}

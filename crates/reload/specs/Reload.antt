@@ -30,8 +30,8 @@ use Rattle.calls.specs.First.{place}
 use Rattle.calls.specs.Calls.{isCall, holdsPair}
 use Rattle.effects.specs.declared.Table.{Table}
 use Rattle.effects.specs.Effect.{slotCount}
-use Rattle.control.specs.declared.Started.{Started}
-use Rattle.control.specs.Refusals.{largestReading, hostCauses, holdAt}
+use Rattle.outcome.specs.declared.Started.{Started}
+use Rattle.outcome.specs.Refusals.{largestReading, hostCauses, holdAt}
 use Rattle.control.specs.Events.{startOf}
 use Rattle.saved.specs.Form.{formOf}
 use Rattle.reload.specs.Reading.{rangeNumbers, pairNumbers, tableIn}

@@ -13,8 +13,8 @@ use channels::Channel;
 use channels::Doubts;
 use channels::Entry;
 use channels::Pool;
-use control::Started;
 use effects::Table;
+use outcome::Started;
 use provisioning::Provision;
 ghost use mathlib.Core.Path.{_≡_};
 ghost use mathlib.Core.Bool.{_||_};
@@ -274,7 +274,7 @@ fn is_clearing_kept(last: u64, network: bool, clearing: Clearing) -> bool
         }
         return false;
     }
-    control::is_host_cause(clearing.cause as u64)
+    outcome::is_host_cause(clearing.cause as u64)
 }
 
 // A state with its timer, side and cause.

@@ -28,8 +28,8 @@ use Rattle.calls.specs.declared.Slot.{Slot}
 use Rattle.calls.specs.Calls.{noSlot}
 use Rattle.effects.specs.declared.Table.{Table}
 use Rattle.effects.specs.Effect.{slotCount}
-use Rattle.control.specs.declared.Started.{Started}
-use Rattle.control.specs.Refusals.{largestReading, hostCauses}
+use Rattle.outcome.specs.declared.Started.{Started}
+use Rattle.outcome.specs.Refusals.{largestReading, hostCauses}
 use Rattle.control.specs.Events.{startOf}
 use Rattle.control.specs.Happens.{Event, happens, after}
 use Rattle.saved.specs.Form.{formOf}

@@ -51,8 +51,8 @@ use Rattle.effects.specs.declared.Effect.{Effect}
 use Rattle.effects.specs.declared.Table.{Table}
 use Rattle.effects.specs.Restart.{pairRestart, restartEffect}
 use Rattle.effects.specs.Effects.{onHold, globalEffect, fireHold, fired, noRoom}
-use Rattle.control.specs.Refusals.{hostCauses}
-use Rattle.control.specs.Events.{connected, cleared}
+use Rattle.outcome.specs.Refusals.{hostCauses}
+use Rattle.commands.specs.Commands.{connected, cleared}
 use Rattle.safety.specs.Tables.{slotAt}
 use Rattle.safety.specs.Sound.{PhaseSound, in-N3, in-N6, in-N9, in-N10, by-host, by-timer, Sound}
 use Rattle.safety.specs.NoPair.{Says45, in-release, in-release-complete, in-status}

@@ -52,8 +52,9 @@ use Rattle.effects.specs.declared.Table.{Table}
 use Rattle.effects.specs.Effect.{fated}
 use Rattle.effects.specs.Restart.{pairRestart, restartEffect}
 use Rattle.effects.specs.Effects.{freePair, onPair, admitted, setupEffect, onNoCall, onHold, addressed, globalEffect, noRoom, doubtOf, fireHold, fired, tickEffect}
-use Rattle.control.specs.Refusals.{holdAt}
-use Rattle.control.specs.Events.{heardBy, connected, cleared, offeredOn, offered}
+use Rattle.outcome.specs.Refusals.{holdAt}
+use Rattle.commands.specs.Commands.{connected, cleared, offeredOn}
+use Rattle.control.specs.Events.{heardBy, offered}
 use Rattle.control.specs.Happens.{Event, message, tick, connect, clear, offer}
 use Rattle.safety.specs.Tables.{slotAt, HasCall, Holds, InDoubt}
 use Rattle.safety.specs.Sound.{Sound}

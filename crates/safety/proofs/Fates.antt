@@ -25,7 +25,7 @@ use Rattle.judging.specs.declared.Verdict.{Verdict}
 use Rattle.judging.specs.Verdict.{silent, ended}
 use Rattle.judging.specs.Class.{inN6, inN6or9, inN10}
 use Rattle.judging.specs.Judge.{statusVerdict, contentsVerdict, judgedAs, judge, released, expire, waiting}
-use Rattle.control.specs.Refusals.{hostCauses}
+use Rattle.outcome.specs.Refusals.{hostCauses}
 use Rattle.safety.specs.Sound.{PhaseSound, in-N3, in-N6, in-N9, in-N10, by-host, by-timer}
 use Rattle.safety.proofs.Changes.{Turns, stays, goes, turns}
 use Rattle.safety.proofs.Cases.{by-cond}

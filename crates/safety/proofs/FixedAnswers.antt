@@ -23,9 +23,10 @@ use Rattle.calls.specs.Timers.{someDue}
 use Rattle.header.specs.Header.{headOf}
 use Rattle.effects.specs.declared.Table.{Table}
 use Rattle.effects.specs.Effects.{freePair, tickEffect}
-use Rattle.control.specs.Refusals.{orElse, commonRefusal, holdAt, bodyRefusal, slotRefusal, pairRefusal}
-use Rattle.control.specs.Outcome.{Outcome, sending, acceptedAs, effectReply, unlessRefused}
-use Rattle.control.specs.Events.{heardBy, connected, cleared, offeredOn, offered}
+use Rattle.outcome.specs.Refusals.{orElse, commonRefusal, holdAt, bodyRefusal, slotRefusal, pairRefusal}
+use Rattle.outcome.specs.Outcome.{Outcome, sending, acceptedAs, effectReply, unlessRefused}
+use Rattle.commands.specs.Commands.{connected, cleared, offeredOn}
+use Rattle.control.specs.Events.{heardBy, offered}
 use Rattle.control.specs.Happens.{Event, message, tick, connect, clear, offer, happens}
 use Rattle.safety.specs.Tables.{HasSlots}
 use Rattle.safety.specs.FixedAnswers.{readingOf, Unchanged, Stored, FixedAnswer}

@@ -64,9 +64,10 @@ use Rattle.effects.specs.declared.Table.{Table}
 use Rattle.effects.specs.Effect.{slotCount, noFlags, flagsAt, onSlot, assigned, afterGone, isSet, doubting}
 use Rattle.effects.specs.Restart.{pairRestart, restartEffect}
 use Rattle.effects.specs.Effects.{freePair, userCall, onPair, admitted, setupEffect, onNoCall, onHold, addressed, globalEffect, fireHold, fired, noRoom, doubtOf}
-use Rattle.control.specs.Refusals.{holdAt}
-use Rattle.control.specs.Outcome.{Outcome, stored, refusedWith}
-use Rattle.control.specs.Events.{heardBy, connected, cleared, networkCall, offeredOn, offered}
+use Rattle.outcome.specs.Refusals.{holdAt}
+use Rattle.outcome.specs.Outcome.{Outcome, stored, refusedWith}
+use Rattle.commands.specs.Commands.{connected, cleared, networkCall, offeredOn}
+use Rattle.control.specs.Events.{heardBy, offered}
 use Rattle.control.specs.Happens.{Event, message, tick, connect, clear, offer}
 use Rattle.safety.specs.Tables.{HasSlots, slotAt, HasCall}
 use Rattle.safety.specs.Flags.{flagOf, CallAsked, CallAnswered, CallGone, OneFlag, NamesExactly, FlagsExact}

@@ -63,9 +63,10 @@ use Rattle.effects.specs.declared.Table.{Table}
 use Rattle.effects.specs.Effect.{slotCount, onSlot, afterGone, isSet}
 use Rattle.effects.specs.Restart.{pairRestart, restartEffect}
 use Rattle.effects.specs.Effects.{freePair, onPair, admitted, setupEffect, onNoCall, onHold, addressed, globalEffect, fireHold, fired, tickEffect, noRoom}
-use Rattle.control.specs.Refusals.{holdAt}
-use Rattle.control.specs.Outcome.{Outcome, sending, refusedWith}
-use Rattle.control.specs.Events.{heardBy, connected, cleared, offeredOn, offered}
+use Rattle.outcome.specs.Refusals.{holdAt}
+use Rattle.outcome.specs.Outcome.{Outcome, sending, refusedWith}
+use Rattle.commands.specs.Commands.{connected, cleared, offeredOn}
+use Rattle.control.specs.Events.{heardBy, offered}
 use Rattle.control.specs.Happens.{Event, message, tick, connect, clear, offer, happens}
 use Rattle.safety.specs.Tables.{HasSlots, slotAt, HasCall}
 use Rattle.safety.specs.Slips.{StillThere, Went, HeldUntilGone}

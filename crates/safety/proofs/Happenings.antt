@@ -43,8 +43,9 @@ use Rattle.effects.specs.declared.Effect.{Effect}
 use Rattle.effects.specs.declared.Table.{Table}
 use Rattle.effects.specs.Restart.{pairRestart, restartEffect}
 use Rattle.effects.specs.Effects.{freePair, userCall, onPair, admitted, setupEffect, onNoCall, onHold, addressed, globalEffect, fireHold, fired, noRoom}
-use Rattle.control.specs.Refusals.{largestReading, holdAt, unclearable, causeRefusal, hostCauses}
-use Rattle.control.specs.Events.{heardBy, connected, cleared, networkCall, offeredOn, offered}
+use Rattle.outcome.specs.Refusals.{largestReading, holdAt, unclearable, causeRefusal, hostCauses}
+use Rattle.commands.specs.Commands.{connected, cleared, networkCall, offeredOn}
+use Rattle.control.specs.Events.{heardBy, offered}
 use Rattle.control.specs.Happens.{Event, message, tick, connect, clear, offer}
 use Rattle.safety.specs.Tables.{slotAt}
 use Rattle.safety.specs.FixedAnswers.{readingOf}

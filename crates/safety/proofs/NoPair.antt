@@ -33,9 +33,10 @@ use Rattle.effects.specs.declared.Effect.{Effect}
 use Rattle.effects.specs.declared.Table.{Table}
 use Rattle.effects.specs.Effect.{replying}
 use Rattle.effects.specs.Effects.{freePair, onPair, admitted, setupEffect, onNoCall, addressed, messageEffect, tickEffect}
-use Rattle.control.specs.Refusals.{holdAt}
-use Rattle.control.specs.Outcome.{effectReply}
-use Rattle.control.specs.Events.{heardBy, connected, cleared, offeredOn, offered}
+use Rattle.outcome.specs.Refusals.{holdAt}
+use Rattle.outcome.specs.Outcome.{effectReply}
+use Rattle.commands.specs.Commands.{connected, cleared, offeredOn}
+use Rattle.control.specs.Events.{heardBy, offered}
 use Rattle.control.specs.Happens.{Event, message, tick, connect, clear, offer, happens}
 use Rattle.reload.specs.Reached.{Reached}
 use Rattle.safety.specs.Tables.{slotAt, NoneFree}

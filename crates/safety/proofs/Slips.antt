@@ -47,9 +47,10 @@ use Rattle.effects.specs.declared.Effect.{Effect}
 use Rattle.effects.specs.declared.Table.{Table}
 use Rattle.effects.specs.Effect.{quiet}
 use Rattle.effects.specs.Effects.{onNoCall, onHold, addressed, globalEffect, messageEffect}
-use Rattle.control.specs.Refusals.{holdAt}
-use Rattle.control.specs.Outcome.{Outcome, acceptedAs, refusedWith, unlessRefused}
-use Rattle.control.specs.Events.{heardBy, cleared}
+use Rattle.outcome.specs.Refusals.{holdAt}
+use Rattle.outcome.specs.Outcome.{Outcome, acceptedAs, refusedWith, unlessRefused}
+use Rattle.commands.specs.Commands.{cleared}
+use Rattle.control.specs.Events.{heardBy}
 use Rattle.control.specs.Happens.{Event, message, clear, happens}
 use Rattle.reload.specs.Reached.{Reached}
 use Rattle.safety.specs.Tables.{slotAt}

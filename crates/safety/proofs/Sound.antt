@@ -28,7 +28,7 @@ use Rattle.calls.specs.Calls.{noSlot, isCall, heldOf}
 use Rattle.calls.proofs.Calls.{held-holds}
 use Rattle.effects.specs.declared.Table.{Table}
 use Rattle.effects.specs.Effect.{slotCount}
-use Rattle.control.specs.Outcome.{Outcome}
+use Rattle.outcome.specs.Outcome.{Outcome}
 use Rattle.control.specs.Events.{startOf}
 use Rattle.control.specs.Happens.{Event, happens, after}
 use Rattle.reload.specs.Reached.{Beginning, start, reload, begun, Reached}

@@ -25,8 +25,8 @@ use Rattle.calls.specs.Calls.{noSlot}
 use Rattle.setup.specs.Offer.{offerFits}
 use Rattle.effects.specs.declared.Table.{Table}
 use Rattle.effects.specs.Effect.{slotCount}
-use Rattle.control.specs.Refusals.{hostCauses}
-use Rattle.control.specs.Outcome.{Outcome}
+use Rattle.outcome.specs.Refusals.{hostCauses}
+use Rattle.outcome.specs.Outcome.{Outcome}
 use Rattle.control.specs.Events.{startOf}
 use Rattle.control.specs.Happens.{Event, message, tick, connect, clear, offer, happens}
 use Rattle.safety.specs.Tables.{slotAt, HasCall, NoneEmpty, NoneFree}

@@ -23,8 +23,9 @@ use Rattle.setup.specs.Setup.{admission}
 use Rattle.judging.specs.Judge.{clearing}
 use Rattle.effects.specs.declared.Table.{Table}
 use Rattle.effects.specs.Effects.{freePair, userCall, setupEffect, messageEffect}
-use Rattle.control.specs.Outcome.{Outcome}
-use Rattle.control.specs.Events.{messageOf, clearOf, networkCall}
+use Rattle.outcome.specs.Outcome.{Outcome}
+use Rattle.commands.specs.Commands.{networkCall}
+use Rattle.control.specs.Events.{messageOf, clearOf}
 use Rattle.control.specs.Happens.{Event, happens}
 use Rattle.safety.specs.Tables.{slotAt, HasCall}
 use Rattle.safety.specs.NoPair.{NoSuchCall}

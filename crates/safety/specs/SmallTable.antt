@@ -9,7 +9,7 @@ use mathlib.Core.Path.{_≡_}
 use mathlib.Core.List.{List, [], _∷_}
 use Rattle.effects.specs.declared.Table.{Table}
 use Rattle.effects.specs.Effect.{flagsAt}
-use Rattle.control.specs.Outcome.{Outcome}
+use Rattle.outcome.specs.Outcome.{Outcome}
 use Rattle.control.specs.Events.{startOf, messageOf, tickOf, offerOf}
 
 abbrev pub ranges : List ℕ

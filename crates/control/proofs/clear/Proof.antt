@@ -4,7 +4,7 @@ use borrow.Author.Needs.{needs}
 use native.Mathlib.Omega.{arith}
 use mathlib.Core.Path.{refl, sym, _∙_}
 use borrow.Author.Tests.{ne-eqb, not-true, not-false}
-use Rattle.control.proofs.Causes.{host-small}
+use Rattle.outcome.proofs.Causes.{host-small}
 use Rattle.control.proofs.clear.Statement.{statement}
 use Rattle.control.proofs.clear.Tie as tie
 

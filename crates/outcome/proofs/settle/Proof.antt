@@ -1,8 +1,8 @@
--- `control::settle` meets its contract: what the effect does to the doubts is done.
+-- `outcome::settle` meets its contract: what the effect does to the doubts is done.
 -- Assumes nothing.
 use borrow.Author.Needs.{needs}
-use Rattle.control.proofs.settle.Statement.{statement}
-use Rattle.control.proofs.settle.Tie as tie
+use Rattle.outcome.proofs.settle.Statement.{statement}
+use Rattle.outcome.proofs.settle.Tie as tie
 
 after-requires : tie.Need-after-requires
 after-requires c κs = search needs

@@ -1,9 +1,9 @@
--- `control::clear_call` meets its contract: the verdict is performed on the slot.
+-- `commands::clear_call` meets its contract: the verdict is performed on the slot.
 -- Assumes nothing.
 use borrow.Author.Needs.{needs}
 use mathlib.Core.Path.{_∙_}
-use Rattle.control.proofs.clear_call.Statement.{statement}
-use Rattle.control.proofs.clear_call.Tie as tie
+use Rattle.commands.proofs.clear_call.Statement.{statement}
+use Rattle.commands.proofs.clear_call.Tie as tie
 
 release-requires : tie.Need-release-requires
 release-requires c κs = search needs

@@ -1,4 +1,4 @@
--- `control::is_host_cause` meets its contract. The loop's invariant: the cause is in the list if it is in what is left.
+-- `outcome::is_host_cause` meets its contract. The loop's invariant: the cause is in the list if it is in what is left.
 -- Assumes nothing.
 use borrow.Author.Needs.{needs}
 use Prim.Native.Nat.{_≤_, _-_}
@@ -7,9 +7,9 @@ use mathlib.Core.Path.{_≡_, refl, sym, _∙_}
 use lib.ListN.{drop}
 use Rattle.contents.specs.Traffic.{member}
 use Rattle.contents.proofs.Lists.{member-here, member-on, member-end}
-use Rattle.control.specs.Refusals.{hostCauses}
-use Rattle.control.proofs.is_host_cause.Statement.{statement}
-use Rattle.control.proofs.is_host_cause.Tie as tie
+use Rattle.outcome.specs.Refusals.{hostCauses}
+use Rattle.outcome.proofs.is_host_cause.Statement.{statement}
+use Rattle.outcome.proofs.is_host_cause.Tie as tie
 
 abbrev Inv-loop : tie.InvT-loop
 Inv-loop cause i₀ i = (i ≤ 17) × (member cause hostCauses ≡ member cause (drop i hostCauses))

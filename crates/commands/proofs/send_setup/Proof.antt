@@ -1,9 +1,9 @@
--- `control::send_setup` meets its contract: the call is put into the slot, and SETUP written.
+-- `commands::send_setup` meets its contract: the call is put into the slot, and SETUP written.
 -- Assumes nothing.
 use borrow.Author.Needs.{needs}
 use mathlib.Core.Path.{_∙_}
-use Rattle.control.proofs.send_setup.Statement.{statement}
-use Rattle.control.proofs.send_setup.Tie as tie
+use Rattle.commands.proofs.send_setup.Statement.{statement}
+use Rattle.commands.proofs.send_setup.Tie as tie
 
 unused-reference-requires : tie.Need-unused-reference-requires
 unused-reference-requires c κs = search needs

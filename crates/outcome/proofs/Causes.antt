@@ -9,7 +9,7 @@ use lib.Dec.{eqb, ltb}
 use borrow.Author.Tests.{eqb-true, ltb-true}
 use Rattle.contents.specs.Traffic.{member}
 use Rattle.contents.proofs.Cases.{by-test}
-use Rattle.control.specs.Refusals.{hostCauses}
+use Rattle.outcome.specs.Refusals.{hostCauses}
 
 abbrev small : List ℕ → Bool
 small [] = true

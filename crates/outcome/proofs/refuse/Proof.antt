@@ -1,8 +1,8 @@
--- `control::refuse` meets its contract: no flag is set.
+-- `outcome::refuse` meets its contract: no flag is set.
 -- Assumes nothing.
 use borrow.Author.Needs.{needs}
-use Rattle.control.proofs.refuse.Statement.{statement}
-use Rattle.control.proofs.refuse.Tie as tie
+use Rattle.outcome.proofs.refuse.Statement.{statement}
+use Rattle.outcome.proofs.refuse.Tie as tie
 
 none-requires : tie.Need-none-requires
 none-requires c κs = search needs

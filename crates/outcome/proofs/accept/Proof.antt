@@ -1,9 +1,9 @@
--- `control::accept` meets its contract: the reply is written, and its length answered.
+-- `outcome::accept` meets its contract: the reply is written, and its length answered.
 -- Assumes nothing.
 use borrow.Author.Needs.{needs}
 use mathlib.Core.Path.{_∙_}
-use Rattle.control.proofs.accept.Statement.{statement}
-use Rattle.control.proofs.accept.Tie as tie
+use Rattle.outcome.proofs.accept.Statement.{statement}
+use Rattle.outcome.proofs.accept.Tie as tie
 
 write-requires : tie.Need-write-requires
 write-requires c κs = search needs

@@ -6,7 +6,7 @@ use Prim.Native.Nat.{ℕ, _<_}
 use Rattle.calls.specs.declared.Hold.{Hold}
 use Rattle.calls.specs.declared.Hold.the-variants.{Empty, Live}
 use Rattle.effects.specs.Effect.{slotCount}
-use Rattle.control.specs.Refusals.{Within}
+use Rattle.outcome.specs.Refusals.{Within}
 
 pub within-below : {slot : ℕ} (h : Hold) → slot < slotCount → Within slot h
 within-below Empty l = tt

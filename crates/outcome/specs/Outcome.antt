@@ -14,7 +14,7 @@ use Rattle.replies.specs.Reply.{replyOctets}
 use Rattle.effects.specs.declared.Table.{Table}
 use Rattle.effects.specs.declared.Effect.{Effect}
 use Rattle.effects.specs.Effect.{noFlags}
-use Rattle.control.specs.declared.Answer.{Answer}
+use Rattle.outcome.specs.declared.Answer.{Answer}
 
 pub record Outcome : Type 0 where
   pub answer : Answer

@@ -1,0 +1,73 @@
+// What connect, clear and offer do to the table.
+//   connect_call      CONNECT, and the call is active
+//   clear_call        RELEASE, and T308 runs
+//   send_setup        SETUP on a pair, and T303 runs
+// Each has a `requires`, which the refusals of its event give: a slot below 32, a reading that is not refused, a room of
+// 1,024 octets, a body of at most 512. They are no entry points; no event of control has a `requires`. Assumes nothing.
+use calls::Call;
+use calls::Hold;
+use calls::Phase;
+use channels::Channel;
+use effects::Effect;
+use effects::Table;
+use judging::Fate;
+use judging::Verdict;
+use outcome::Answer;
+use replies::Reply;
+ghost use mathlib.Core.Path.{_≡_};
+ghost use Prim.Native.Nat.{_≤_, _<_};
+ghost use lib.ListN.{length};
+ghost use Rattle.octets.specs.Octets.{front};
+ghost use Rattle.commands.specs.Commands.{connected, cleared, offeredOn};
+
+// CONNECT is sent, and the call is active.
+pub fn connect_call(table: Table, slot: usize, call: Call) -> Effect
+    requires { ⌜ slot < 32 ⌝ }
+    ensures { λ r. ⌜ r ≡ connected table slot (Hold.Live call) ⌝ }
+{
+    let slots = table.slots;
+    let verdict = Verdict {
+        fate: Fate::To(Phase::N10),
+        reply: Reply::Connect,
+        notice: 0,
+    };
+    effects::on_slot(slots, slot, !call.network, call.reference, verdict)
+}
+
+// RELEASE is sent, and T308 runs.
+pub fn clear_call(table: Table, reading: u64, slot: usize, cause: u8, call: Call) -> Effect
+    requires { ⌜ (slot < 32) × (reading ≤ 4000000000000) ⌝ }
+    ensures { λ r. ⌜ r ≡ cleared table reading slot cause (Hold.Live call) ⌝ }
+{
+    let slots = table.slots;
+    let verdict = judging::release(reading, false, cause, false);
+    effects::on_slot(slots, slot, !call.network, call.reference, verdict)
+}
+
+// SETUP is sent on a pair, and T303 runs.
+pub fn send_setup(
+    table: Table,
+    reading: u64,
+    room: &mut [u8],
+    body: &[u8],
+    i: usize,
+    vpci: u16,
+    vci: u16,
+) -> Answer
+    requires { ⌜ (i < 32) × (reading ≤ 4000000000000) × (1024 ≤ length (now room)) × (length (now body) ≤ 512) ⌝ }
+    ensures { λ r. ⌜ (r ≡ offeredOn table reading (now (body .entry)) i (Channel.Pair vpci vci) .answer)
+        × (now (room .exit) ≡ front (offeredOn table reading (now (body .entry)) i (Channel.Pair vpci vci) .reply) (now (room .entry))) ⌝ }
+{
+    let slots = table.slots;
+    let reference = slots.unused_reference();
+    let call = Call {
+        network: true,
+        reference: reference,
+        vpci: vpci,
+        vci: vci,
+        phase: Phase::N6(reading + 4000),
+    };
+    let effect = effects::assign(slots, i, false, reference, call, Reply::None);
+    let n = replies::write_setup(room, reference, vpci, vci, body);
+    outcome::settle(table, reading, effect, false, n)
+}
