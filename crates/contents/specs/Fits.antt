@@ -5,8 +5,9 @@ use Prim.Native.Nat.{ℕ}
 use mathlib.Core.Bool.{Bool, false, cond}
 use mathlib.Core.List.{List}
 use lib.Dec.{eqb}
-use Rattle.contents.specs.Contents.{causeFits, callStateFits, connectionFits, qosFits, bearerFits, calledFits, restartFits}
-use Rattle.contents.specs.Traffic.{trafficFits}
+use Rattle.contents.specs.Contents.{causeFits, callStateFits, connectionFits, restartFits}
+use Rattle.mandatory.specs.Mandatory.{qosFits, bearerFits, calledFits}
+use Rattle.traffic.specs.Traffic.{trafficFits}
 
 -- an identifier that is not listed has no readable contents
 abbrev pub fits : ℕ → List ℕ → Bool

@@ -1,4 +1,2 @@
-pub mod Walk
 pub mod Contents
-pub mod Traffic
 pub mod Fits

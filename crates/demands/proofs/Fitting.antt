@@ -13,7 +13,7 @@ use lib.ListN.{getD}
 use borrow.Author.Tests.{ltb-true}
 use Rattle.calls.specs.declared.Clearing.{Clearing}
 use Rattle.octets.specs.Octets.{part}
-use Rattle.contents.specs.Traffic.{member}
+use Rattle.traffic.specs.Traffic.{member}
 use Rattle.contents.specs.Contents.{connectionIn as pairIn}
 use Rattle.channels.specs.declared.Channel.{Channel}
 use Rattle.channels.specs.declared.Channel.the-variants.{None, Pair}

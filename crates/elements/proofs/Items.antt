@@ -11,9 +11,9 @@ use native.Mathlib.Omega.{arith}
 use lib.Dec.{eqb, ltb}
 use borrow.Author.Tests.{lt-ltb, ltb-false}
 use lib.ListN.{length}
-use Rattle.contents.specs.Walk.{walk}
-use Rattle.contents.proofs.Cases.{by-test}
-use Rattle.contents.proofs.Walk.{walk-on}
+use Rattle.traffic.specs.Walk.{walk}
+use Rattle.octets.proofs.Cases.{by-test}
+use Rattle.traffic.proofs.Walk.{walk-on}
 use Rattle.elements.specs.declared.Item.{Item}
 use Rattle.elements.specs.declared.Item.the-variants.{End, Overrun, Whole}
 use Rattle.elements.specs.Elements.{contentLength, itemAt, andThen, itemStep, items, firstOf}

@@ -11,7 +11,7 @@ use mathlib.Core.List.{List, [], _∷_}
 use lib.Dec.{eqb, ltb}
 use lib.ListN.{length, getD}
 use Rattle.octets.specs.Octets.{number, part}
-use Rattle.contents.specs.Walk.{walk}
+use Rattle.traffic.specs.Walk.{walk}
 use Rattle.contents.specs.Fits.{fits}
 use Rattle.elements.specs.declared.Item.{Item}
 use Rattle.elements.specs.declared.Item.the-variants.{End, Overrun, Whole}

@@ -9,7 +9,8 @@ use Prim.Native.Nat.{ℕ}
 use mathlib.Core.Bool.{cond}
 use mathlib.Core.List.{List}
 use Rattle.octets.specs.Octets.{part}
-use Rattle.contents.specs.Contents.{causeNumber, callStateValue, connectionIn as pairIn, multipoint, restartClass}
+use Rattle.contents.specs.Contents.{causeNumber, callStateValue, connectionIn as pairIn, restartClass}
+use Rattle.mandatory.specs.Mandatory.{multipoint}
 use Rattle.elements.specs.declared.Look.{Look}
 use Rattle.elements.specs.declared.Look.the-variants.{Absent, Unreadable, Readable}
 use Rattle.elements.specs.declared.CauseRead.{CauseRead}

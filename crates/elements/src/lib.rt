@@ -184,7 +184,7 @@ pub fn call_state(m: &[u8], from: usize) -> CallStateRead
     }
 }
 
-// 59 Traffic descriptor: where its contents are, for `contents::traffic` to ask.
+// 59 Traffic descriptor: where its contents are, for crate `traffic` to ask.
 pub fn traffic(m: &[u8], from: usize) -> Look
     ensures { λ r. ⌜ r ≡ lookFor (now (m .entry)) from 0x59 ⌝ }
     ensures within { λ r. ⌜ Within (length (now (m .entry))) r ⌝ }
@@ -227,7 +227,7 @@ pub fn bearer(m: &[u8], from: usize) -> BearerRead
         Look::Absent => BearerRead::Absent,
         Look::Unreadable => BearerRead::Unreadable,
         Look::Readable(start, end) => {
-            if contents::is_multipoint(&m[start..end]) {
+            if mandatory::is_multipoint(&m[start..end]) {
                 return BearerRead::Multipoint;
             }
             BearerRead::PointToPoint

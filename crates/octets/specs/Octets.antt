@@ -1,5 +1,6 @@
 -- Octets: numbers of two octets, a part of a message, and what a room holds after a write.
 --   high, low, number      a 16-bit number in two octets, high octet first
+--   topBit                 if an octet has its top bit set
 --   part                   the octets of a message from one place up to another
 --   equal                  if two runs of octets are the same
 --   front                  a room after a reply was written to its front
@@ -10,7 +11,7 @@ use Prim.Native.Nat.{ℕ, _+_, _*_, _-_, _/_, _%_}
 use mathlib.Core.Path.{_≡_}
 use mathlib.Core.Bool.{Bool, true, false, _&&_}
 use mathlib.Core.List.{List, [], _∷_, _++_}
-use lib.Dec.{eqb}
+use lib.Dec.{eqb, leb}
 use lib.ListN.{length, take, drop}
 use lib.Seq.{sets}
 
@@ -23,6 +24,10 @@ low n = n % 256
 
 abbrev pub number : ℕ → ℕ → ℕ
 number h l = h * 256 + l
+
+-- "top bit set"
+abbrev pub topBit : ℕ → Bool
+topBit octet = leb 128 octet
 
 -- the octets from place a up to, and not with, place e
 abbrev pub part : List ℕ → ℕ → ℕ → List ℕ

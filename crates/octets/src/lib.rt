@@ -1,12 +1,13 @@
 // Numbers in octets, and writing octets at a place of a lent room.
 //   wide      an octet as a usize
 //   number    a 16-bit number from its two octets, high octet first
+//   octet_at  an octet, 0 where there is none
 //   same      if two runs of octets are the same
 //   put       octets at a place of a room
 // `put` asks for room; nothing else has a `requires`. Assumes nothing.
 ghost use mathlib.Core.Path.{_≡_};
 ghost use Prim.Native.Nat.{_+_, _≤_};
-ghost use lib.ListN.{length};
+ghost use lib.ListN.{length, getD};
 ghost use Rattle.octets.specs.Octets.{number, equal, Wrote};
 
 // An octet as a usize.
@@ -21,6 +22,16 @@ pub fn number(high: u8, low: u8) -> u16
     ensures { λ r. ⌜ r ≡ number high low ⌝ }
 {
     (high as u16) * 256 + (low as u16)
+}
+
+// The octet at a place, 0 where there is none.
+pub fn octet_at(c: &[u8], at: usize) -> u8
+    ensures { λ r. ⌜ r ≡ getD (now (c .entry)) at 0 ⌝ }
+{
+    if at < c.len() {
+        return c[at];
+    }
+    0
 }
 
 // If two runs have the same octets.

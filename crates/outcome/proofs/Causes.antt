@@ -7,8 +7,8 @@ use mathlib.Core.Bool.{Bool, true, false, _&&_, true≢false}
 use mathlib.Core.List.{List, [], _∷_}
 use lib.Dec.{eqb, ltb}
 use borrow.Author.Tests.{eqb-true, ltb-true}
-use Rattle.contents.specs.Traffic.{member}
-use Rattle.contents.proofs.Cases.{by-test}
+use Rattle.traffic.specs.Traffic.{member}
+use Rattle.octets.proofs.Cases.{by-test}
 use Rattle.outcome.specs.Refusals.{hostCauses}
 
 abbrev small : List ℕ → Bool

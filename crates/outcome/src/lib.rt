@@ -18,7 +18,7 @@ ghost use mathlib.Core.Path.{_≡_};
 ghost use Prim.Native.Nat.{_≤_};
 ghost use lib.ListN.{length};
 ghost use Rattle.octets.specs.Octets.{front};
-ghost use Rattle.contents.specs.Traffic.{member};
+ghost use Rattle.traffic.specs.Traffic.{member};
 ghost use Rattle.outcome.specs.Refusals.{commonRefusal, sizeRefusal, holdAt, Within, notN3, inN12, hostCauses, bodyRefusal};
 ghost use Rattle.outcome.specs.Outcome.{refusedWith, effectReply, settled, sending};
 

@@ -12,7 +12,7 @@ use borrow.Author.Tests.{ltb-false, leb-true, leb-false, eqb-true}
 use lib.ListN.{length, getD, drop, length-drop}
 use Rattle.octets.specs.Octets.{high, low, number}
 use Rattle.header.specs.Header.{headerIn}
-use Rattle.contents.proofs.Cases.{by-test}
+use Rattle.octets.proofs.Cases.{by-test}
 use Rattle.elements.specs.Elements.{wholeFrom}
 use Rattle.replies.specs.Message.{Message, header, message, octets as written}
 use Rattle.readback.specs.ReadBack.{elementsIn, unreadable, reads, readMessage, Octets}

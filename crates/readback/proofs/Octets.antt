@@ -9,7 +9,7 @@ use lib.Dec.{ltb}
 use borrow.Author.Tests.{ltb-true, ltb-false}
 use lib.ListN.{getD, take, drop, length-take, List·getD-eq-default}
 use lib.Seq.{getD-take, getD-drop}
-use Rattle.contents.proofs.Cases.{by-test}
+use Rattle.octets.proofs.Cases.{by-test}
 use Rattle.readback.specs.ReadBack.{Octets}
 
 pub no-octets : Octets []

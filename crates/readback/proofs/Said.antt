@@ -19,7 +19,7 @@ use lib.ListN.{length}
 use Rattle.octets.specs.Octets.{part}
 use Rattle.contents.specs.Contents.{causeNumber, callStateValue, connectionIn as pairIn, restartClass}
 use Rattle.contents.specs.Fits.{fits}
-use Rattle.contents.proofs.Cases.{by-test}
+use Rattle.octets.proofs.Cases.{by-test}
 use Rattle.elements.specs.declared.Item.{Item}
 use Rattle.elements.specs.declared.Item.the-variants.{End, Overrun, Whole}
 use Rattle.elements.specs.declared.CauseRead.the-variants.{Number}

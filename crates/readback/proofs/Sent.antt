@@ -12,7 +12,7 @@ use mathlib.Core.List.{List, [], _∷_}
 use native.Mathlib.Omega.{arith}
 use lib.ListN.{length}
 use Rattle.octets.specs.Octets.{high, low}
-use Rattle.contents.proofs.Cases.{by-test}
+use Rattle.octets.proofs.Cases.{by-test}
 use Rattle.replies.specs.declared.Mandatory.{Mandatory}
 use Rattle.replies.specs.declared.Diagnostic.{Diagnostic}
 use Rattle.replies.specs.declared.Diagnostic.the-variants as diagnostic

@@ -13,7 +13,7 @@ use borrow.Author.Tests.{lt-ltb, le-ltb, eq-eqb, ltb-false}
 use lib.ListN.{length, getD, length-append}
 use lib.Seq.{getD-append-add, drop-append-add, take-at}
 use Rattle.octets.specs.Octets.{high, low, number, part}
-use Rattle.contents.proofs.Cases.{by-test}
+use Rattle.octets.proofs.Cases.{by-test}
 use Rattle.elements.specs.declared.Item.the-variants.{Whole}
 use Rattle.elements.specs.Elements.{contentLength, itemAt, items, wholeFrom}
 use Rattle.elements.proofs.Items.{items-on}

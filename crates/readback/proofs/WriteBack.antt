@@ -16,8 +16,8 @@ use borrow.Author.Tests.{ltb-false, eqb-true}
 use lib.ListN.{length, getD, drop, length-take, length-drop, take-append-drop, drop-of-length-le}
 use lib.Seq.{drop-cons, drop-drop}
 use Rattle.octets.specs.Octets.{high, low, part}
-use Rattle.contents.specs.Walk.{walk}
-use Rattle.contents.proofs.Cases.{by-test}
+use Rattle.traffic.specs.Walk.{walk}
+use Rattle.octets.proofs.Cases.{by-test}
 use Rattle.elements.specs.declared.Item.{Item}
 use Rattle.elements.specs.declared.Item.the-variants.{End, Overrun, Whole}
 use Rattle.elements.specs.Elements.{contentLength, itemAt, itemStep, andThen, endsWhole, wholeFrom}

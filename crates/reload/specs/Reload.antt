@@ -10,7 +10,7 @@ use mathlib.Core.Bool.{Bool, true, false, cond, not, _&&_, _||_}
 use mathlib.Core.List.{List, []}
 use lib.Dec.{eqb, leb}
 use Rattle.octets.specs.Octets.{equal}
-use Rattle.contents.specs.Traffic.{member}
+use Rattle.traffic.specs.Traffic.{member}
 use Rattle.channels.specs.declared.Channel.{Channel}
 use Rattle.channels.specs.declared.Channel.the-variants.{None, Pair}
 use Rattle.channels.specs.declared.Entry.{Entry}

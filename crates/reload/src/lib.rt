@@ -47,7 +47,7 @@ fn octet_in(form: &[u8], at: usize, k: usize) -> u8
     requires { ⌜ (at ≤ 4294967296) × (k ≤ 512) ⌝ }
     ensures { λ r. ⌜ r ≡ getD (drop at (now (form .entry))) k 0 ⌝ }
 {
-    contents::octet_at(form, at + k)
+    octets::octet_at(form, at + k)
 }
 
 fn two_in(form: &[u8], at: usize, k: usize) -> u16

@@ -16,7 +16,7 @@ use borrow.Author.Tests.{eqb-true, eq-eqb, ne-eqb, le-leb, lt-ltb, le-ltb}
 use Rattle.roundtrip.proofs.Doubtful.{sound-doubtful, sound-doubts-kept}
 use Rattle.octets.specs.Octets.{equal}
 use Rattle.octets.proofs.Equal.{same-equal}
-use Rattle.contents.specs.Traffic.{member}
+use Rattle.traffic.specs.Traffic.{member}
 use Rattle.channels.proofs.Cases.{by-test, clash}
 use Rattle.channels.specs.declared.Pool.{Pool}
 use Rattle.provisioning.specs.Provisioning.{provision}

@@ -12,7 +12,7 @@ use mathlib.Core.List.{List, [], _∷_}
 use native.Mathlib.Omega.{arith}
 use lib.Dec.{eqb, ltb}
 use borrow.Author.Tests.{eqb-true, eq-eqb, not-true}
-use Rattle.contents.specs.Traffic.{member}
+use Rattle.traffic.specs.Traffic.{member}
 use Rattle.channels.specs.Some.{someOf}
 use Rattle.channels.specs.Channels.{permanent, knownVpci}
 use Rattle.channels.proofs.Cases.{by-test, clash}

@@ -13,7 +13,7 @@ use native.Mathlib.Omega.{arith}
 use lib.Dec.{eqb, ltb}
 use lib.ListN.{length, List·getD-eq-default}
 use borrow.Author.Tests.{eqb-true, eqb-false, ltb-true, ne-eqb, lt-ltb}
-use Rattle.contents.specs.Traffic.{member}
+use Rattle.traffic.specs.Traffic.{member}
 use Rattle.channels.specs.declared.Channel.{Channel}
 use Rattle.channels.specs.declared.Channel.the-variants as channel
 use Rattle.channels.proofs.Cases.{by-test}

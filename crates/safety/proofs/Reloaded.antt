@@ -21,7 +21,7 @@ use Rattle.channels.specs.Doubts.{doubtRoom, tidy}
 use Rattle.channels.specs.Some.{someOf}
 use Rattle.octets.specs.Octets.{equal}
 use Rattle.octets.proofs.Equal.{equal-same}
-use Rattle.contents.specs.Traffic.{member}
+use Rattle.traffic.specs.Traffic.{member}
 use Rattle.channels.specs.Channels.{permitted, inRanges, isPair, isEntry, among}
 use Rattle.channels.proofs.Cases.{by-test, clash, both}
 use Rattle.provisioning.specs.Provisioning.{provision, entryAt, numbered}

@@ -15,7 +15,7 @@ use mathlib.Core.Bool.{false}
 use mathlib.Core.List.{List, []}
 use lib.ListN.{length, replicate}
 use Rattle.octets.specs.Octets.{front}
-use Rattle.contents.specs.Traffic.{member}
+use Rattle.traffic.specs.Traffic.{member}
 use Rattle.channels.specs.declared.Range.{Range}
 use Rattle.provisioning.specs.Provisioning.{rangeAt, singleAt, poolOf}
 use Rattle.calls.specs.declared.Clearing.{Clearing}

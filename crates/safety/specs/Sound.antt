@@ -11,7 +11,7 @@ use mathlib.Core.Logic.{_≢_}
 use mathlib.Core.Bool.{Bool, true, false}
 use mathlib.Core.List.{List, [], _∷_}
 use lib.ListN.{length, getD}
-use Rattle.contents.specs.Traffic.{member}
+use Rattle.traffic.specs.Traffic.{member}
 use Rattle.channels.specs.Channels.{permitted}
 use Rattle.channels.specs.Doubts.{doubtRoom, tidy}
 use Rattle.calls.specs.declared.Clearing.{Clearing}

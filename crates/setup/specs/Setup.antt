@@ -8,7 +8,7 @@
 use Prim.Native.Nat.{ℕ}
 use mathlib.Core.Bool.{Bool, true, false, cond, _||_}
 use mathlib.Core.List.{List}
-use Rattle.contents.specs.Traffic.{trafficAllowed}
+use Rattle.traffic.specs.Traffic.{trafficAllowed}
 use Rattle.elements.specs.declared.Look.{Look}
 use Rattle.elements.specs.declared.Look.the-variants.{Absent, Unreadable, Readable}
 use Rattle.elements.specs.Elements.{lookFor}

@@ -122,7 +122,7 @@ fn is_allowed(m: &[u8], from: usize) -> bool
     match elements::look_for(m, from, 0x59) {
         Look::Absent => false,
         Look::Unreadable => false,
-        Look::Readable(start, end) => contents::traffic::traffic_allowed(&m[start..end]),
+        Look::Readable(start, end) => traffic::traffic_allowed(&m[start..end]),
     }
 }
 

@@ -22,7 +22,16 @@ number-requires-2 : tie.Need-number-requires-2
 number-requires-2 c κs = search needs
 
 returns : tie.Need-returns
-returns c = cc
+returns c =
+    let d = c .before .before .before in
+    rw (
+      c .number2 .ensures,
+      c .before .octet-at4 .ensures,
+      c .before .before .octet-at3 .ensures,
+      d .number .ensures,
+      d .before .octet-at2 .ensures,
+      d .before .before .octet-at .ensures,
+    )
 
 pub connection-in-spec : {M : Type 1} → statement M
 connection-in-spec =

@@ -5,8 +5,8 @@ use Prim.Native.Nat.{_≤_, _-_}
 use native.Mathlib.Omega.{arith}
 use mathlib.Core.Path.{_≡_, refl, sym, _∙_}
 use lib.ListN.{drop}
-use Rattle.contents.specs.Traffic.{member}
-use Rattle.contents.proofs.Lists.{member-here, member-on, member-end}
+use Rattle.traffic.specs.Traffic.{member}
+use Rattle.traffic.proofs.Member.{member-here, member-on, member-end}
 use Rattle.outcome.specs.Refusals.{hostCauses}
 use Rattle.outcome.proofs.is_host_cause.Statement.{statement}
 use Rattle.outcome.proofs.is_host_cause.Tie as tie

@@ -1,4 +1,0 @@
-pub mod Cases
-pub mod Walk
-pub mod Lists
-pub mod Subfields
