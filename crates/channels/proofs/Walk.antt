@@ -1,4 +1,4 @@
--- Laws of the walk to the lowest free pair: what one step of the code's two loops does to `scan` and `lowest`. The loops of `Pool::lowest_free` cite them.
+-- Laws of the walk to the lowest free pair: what one step of the code's two loops does to `scan` and `lowest`. The loops of `search::lowest_free` cite them.
 --   scan-free, scan-taken, scan-end     the VCI at hand is free, is taken, is past the range
 --   lowest-here, lowest-end             the range at hand, and none left
 -- Assumes nothing.

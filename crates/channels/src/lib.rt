@@ -1,4 +1,4 @@
-// Channels: permitted ranges, permanent pairs, and the lowest free pair.
+// Channels: permitted ranges, permanent pairs, and pairs in doubt.
 //   Channel, Entry, Range     a pair of VPCI and VCI or none, one entry of a list of them, one permitted range
 //   Pool, Held                what start permits; the pairs that live calls hold, one entry for each slot
 //   Doubts, Doubting          the pairs in doubt, ascending; what an event does to them
@@ -15,13 +15,12 @@
 //   Pool::is_permanent        if a pair is permanent
 //   Pool::permits             if a pair is in a range and not permanent
 //   Pool::is_taken            if a pair is not free
-//   Pool::lowest_free         the lowest free permitted pair by VPCI and then VCI
 //   Pool::knows_vpci          if a VPCI stands in a range or in a permanent pair
 //   Pool::empty               the pool without ranges and without permanent pairs
 // Nothing here has a `requires`. Assumes nothing.
 ghost use mathlib.Core.Path.{_≡_};
 ghost use Rattle.channels.specs.Doubts.{isNone, entryBefore, doubtsOf, noDoubts, isFull, pairEntry, sunk, closedUp, ended, doubtsAfter};
-ghost use Rattle.channels.specs.Channels.{isEntry, among, inRange, inRanges, permitted, taken, lowest, spansVpci, namesVpci, spannedVpci, namedVpci, knownVpci, noRange, noEntry, emptyPool};
+ghost use Rattle.channels.specs.Channels.{isEntry, among, inRange, inRanges, permitted, taken, spansVpci, namesVpci, spannedVpci, namedVpci, knownVpci, noRange, noEntry, emptyPool};
 
 // A VPCI and a VCI, or none.
 pub enum Channel {
@@ -341,29 +340,6 @@ impl Pool {
             return true;
         }
         self.is_permanent(vpci, vci)
-    }
-
-    pub fn lowest_free(self, held: Held, doubts: Doubts) -> Channel
-        ensures { λ r. ⌜ r ≡ lowest (taken (held .entries) (doubts .entries) (self .permanents)) (self .ranges) ⌝ }
-    {
-        let mut answer = Channel::None;
-        let mut i: usize = 0;
-        'search: while i < 4 {
-            let range = self.ranges[i];
-            let vpci = range.vpci;
-            let last = range.last as u32;
-            let mut v = range.first as u32;
-            while v <= last {
-                let vci = v as u16;
-                if !self.is_taken(held, doubts, vpci, vci) {
-                    answer = Channel::Pair(vpci, vci);
-                    break 'search;
-                }
-                v += 1;
-            }
-            i += 1;
-        }
-        answer
     }
 
     pub fn range_spans_vpci(self, vpci: u16) -> bool

@@ -334,7 +334,7 @@ impl Table {
         let slots = self.slots;
         let doubts = self.doubts;
         let pool = self.pool;
-        pool.lowest_free(slots.held(), doubts)
+        search::lowest_free(pool, slots.held(), doubts)
     }
 
     fn refuse_setup(self, reference: u32, why: Cause) -> Effect

@@ -1,4 +1,4 @@
--- `Pool::lowest_free` meets its contract. The invariants: the lowest free pair is that of the ranges left; and, in a range, that of the VCIs
+-- `lowest_free` meets its contract. The invariants: the lowest free pair is that of the ranges left; and, in a range, that of the VCIs
 -- left and then of the ranges behind. Assumes nothing.
 use borrow.Author.Needs.{needs}
 use Prim.Native.Nat.{_+_, _-_, _≤_, _<_}
@@ -6,28 +6,28 @@ use native.Mathlib.Omega.{arith}
 use mathlib.Core.Path.{_≡_, refl, sym, _∙_}
 use lib.ListN.{length, drop, getD, length-map}
 use borrow.Author.Tests.{not-true, not-false}
 use Rattle.channels.specs.Channels.{taken, scan, lowest}
 use Rattle.channels.specs.declared.Channel.the-variants.{None}
 use Rattle.channels.proofs.Walk.{zeroRange, scan-free, scan-taken, scan-end, lowest-here, lowest-end}
-use Rattle.channels.proofs.Pool.lowest_free.Statement.{statement}
-use Rattle.channels.proofs.Pool.lowest_free.Tie as tie
+use Rattle.search.proofs.lowest_free.Statement.{statement}
+use Rattle.search.proofs.lowest_free.Tie as tie
 
 abbrev Inv-loop : tie.InvT-loop
-Inv-loop held doubts self answer₀ i vpci last v₀ answer v =
-    (i < 4) × (length (self .ranges) ≡ 4) × (answer ≡ None) × (v ≤ 65536) × (last < 65536)
-    × (lowest (taken (held .entries) (doubts .entries) (self .permanents)) (self .ranges)
-    ≡ scan (taken (held .entries) (doubts .entries) (self .permanents)) vpci ((last + 1) - v) v (lowest (taken (held .entries) (doubts .entries) (self .permanents)) (drop (i + 1) (self .ranges))))
+Inv-loop held doubts pool answer₀ i vpci last v₀ answer v =
+    (i < 4) × (length (pool .ranges) ≡ 4) × (answer ≡ None) × (v ≤ 65536) × (last < 65536)
+    × (lowest (taken (held .entries) (doubts .entries) (pool .permanents)) (pool .ranges)
+    ≡ scan (taken (held .entries) (doubts .entries) (pool .permanents)) vpci ((last + 1) - v) v (lowest (taken (held .entries) (doubts .entries) (pool .permanents)) (drop (i + 1) (pool .ranges))))
 
 abbrev μ-loop : tie.MeasureT-loop
-μ-loop held doubts self answer₀ i vpci last v₀ answer v = (last + 1) - v
+μ-loop held doubts pool answer₀ i vpci last v₀ answer v = (last + 1) - v
 
 abbrev Inv-search : tie.InvT-search
-Inv-search held doubts self answer₀ i₀ answer i =
-    (i ≤ 4) × (length (self .ranges) ≡ 4) × (answer ≡ None)
-    × (lowest (taken (held .entries) (doubts .entries) (self .permanents)) (self .ranges) ≡ lowest (taken (held .entries) (doubts .entries) (self .permanents)) (drop i (self .ranges)))
+Inv-search held doubts pool answer₀ i₀ answer i =
+    (i ≤ 4) × (length (pool .ranges) ≡ 4) × (answer ≡ None)
+    × (lowest (taken (held .entries) (doubts .entries) (pool .permanents)) (pool .ranges) ≡ lowest (taken (held .entries) (doubts .entries) (pool .permanents)) (drop i (pool .ranges)))
 
 abbrev μ-search : tie.MeasureT-search
-μ-search held doubts self answer₀ i₀ answer i = 4 - i
+μ-search held doubts pool answer₀ i₀ answer i = 4 - i
 
 search-holds : tie.Need-search-holds Inv-loop μ-loop Inv-search μ-search
 search-holds c = (search needs, simp length-map at (c .good .0 .1 .1 .0 .1 .0 .1), refl, refl)
