@@ -8,19 +8,17 @@
 //   Range::unused             the range without a VCI
 //   Held::holds               if a live call holds a pair
 //   Doubts::none              no pair in doubt
-//   Doubts::has               if a pair is in doubt
 //   Doubts::is_full           if there is no room for one more
 //   Doubts::begin, end        a doubt begins, ends
 //   Doubts::after             what an event makes of them
 //   Pool::is_permanent        if a pair is permanent
 //   Pool::permits             if a pair is in a range and not permanent
-//   Pool::is_taken            if a pair is not free
 //   Pool::knows_vpci          if a VPCI stands in a range or in a permanent pair
 //   Pool::empty               the pool without ranges and without permanent pairs
 // Nothing here has a `requires`. Assumes nothing.
 ghost use mathlib.Core.Path.{_≡_};
 ghost use Rattle.channels.specs.Doubts.{isNone, entryBefore, doubtsOf, noDoubts, isFull, pairEntry, sunk, closedUp, ended, doubtsAfter};
-ghost use Rattle.channels.specs.Channels.{isEntry, among, inRange, inRanges, permitted, taken, spansVpci, namesVpci, spannedVpci, namedVpci, knownVpci, noRange, noEntry, emptyPool};
+ghost use Rattle.channels.specs.Channels.{isEntry, among, inRange, inRanges, permitted, spansVpci, namesVpci, spannedVpci, namedVpci, knownVpci, noRange, noEntry, emptyPool};
 
 // A VPCI and a VCI, or none.
 pub enum Channel {
@@ -184,20 +182,6 @@ impl Doubts {
         Doubts { entries: entries }
     }
 
-    pub fn has(self, vpci: u16, vci: u16) -> bool
-        ensures { λ r. ⌜ r ≡ among vpci vci (self .entries) ⌝ }
-    {
-        let mut i: usize = 0;
-        while i < 64 {
-            let e = self.entries[i];
-            if e.is(vpci, vci) {
-                return true;
-            }
-            i += 1;
-        }
-        false
-    }
-
     pub fn is_full(self) -> bool
         ensures { λ r. ⌜ r ≡ isFull (self .entries) ⌝ }
     {
@@ -328,18 +312,6 @@ impl Pool {
             return !self.is_permanent(vpci, vci);
         }
         false
-    }
-
-    pub fn is_taken(self, held: Held, doubts: Doubts, vpci: u16, vci: u16) -> bool
-        ensures { λ r. ⌜ r ≡ taken (held .entries) (doubts .entries) (self .permanents) vpci vci ⌝ }
-    {
-        if held.holds(vpci, vci) {
-            return true;
-        }
-        if doubts.has(vpci, vci) {
-            return true;
-        }
-        self.is_permanent(vpci, vci)
     }
 
     pub fn range_spans_vpci(self, vpci: u16) -> bool

@@ -1,7 +1,8 @@
 // Standard lives of calls, for counting instructions. Four octets on standard input: 0 for a user-originated call
-// (SETUP, connect, CONNECT ACKNOWLEDGE, RELEASE) or 1 for a network-originated one (offer, CALL PROCEEDING, CONNECT,
-// clear, RELEASE COMPLETE); how many calls stand beside it; hundreds of lives; 1, 2 or 4 ranges. Writes the lengths
-// of all replies added up modulo 1,000,000.
+// (SETUP, connect, CONNECT ACKNOWLEDGE, RELEASE), 1 for a network-originated one (offer, CALL PROCEEDING, CONNECT,
+// clear, RELEASE COMPLETE) or 2 for one that ends at once (SETUP, RELEASE COMPLETE); how many calls stand beside it;
+// hundreds of lives; which lists it starts with (`table_of`). Writes the lengths of all replies added up modulo
+// 1,000,000.
 use effects::Table;
 use outcome::Answer;
 ghost use Prim.Native.Nat.{_<_};
@@ -127,6 +128,19 @@ impl Life {
         let releasing = counted(active, cleared);
         releasing.bare(0x80, 1, 0x5A, room)
     }
+
+    fn brief(self, room: &mut [u8; 1024]) -> Life {
+        let asked = self.set_up(200, room);
+        asked.bare(0, 200, 0x5A, room)
+    }
+
+    fn of_kind(self, kind: u8, slot: u64, room: &mut [u8; 1024]) -> Life {
+        match kind {
+            0 => self.user(slot, room),
+            1 => self.network(slot, room),
+            _ => self.brief(room),
+        }
+    }
 }
 
 // LIVE calls on references from 1.
@@ -144,25 +158,37 @@ fn lived(life: Life, kind: u8, live: u64, rounds: u64, room: &mut [u8; 1024]) ->
     let mut l = life;
     let mut i: u64 = 0;
     while i < rounds {
-        if kind == 0 {
-            l = l.user(live, room);
-        } else {
-            l = l.network(live, room);
-        }
+        l = l.of_kind(kind, live, room);
         i += 1;
     }
     l
 }
 
-// 32 channels, in 1, 2 or 4 ranges.
-fn table_of(ranges: u8) -> Table {
-    match ranges {
+// 1, 2 and 4: 32 channels in so many ranges. 0: 2 channels in one range. 3: 16 channels in four ranges. 5: 36 channels in
+// four ranges, the last two of each permanent.
+fn table_of(lists: u8) -> Table {
+    match lists {
+        0 => {
+            let started = control::start(&[0, 32, 33], &[]);
+            started.table
+        }
         1 => {
             let started = control::start(&[0, 32, 63], &[]);
             started.table
         }
         2 => {
             let started = control::start(&[0, 32, 47, 1, 32, 47], &[]);
+            started.table
+        }
+        3 => {
+            let started = control::start(&[0, 32, 35, 1, 32, 35, 2, 32, 35, 3, 32, 35], &[]);
+            started.table
+        }
+        5 => {
+            let started = control::start(
+                &[0, 32, 40, 1, 32, 40, 2, 32, 40, 3, 32, 40],
+                &[0, 39, 0, 40, 1, 39, 1, 40, 2, 39, 2, 40, 3, 39, 3, 40],
+            );
             started.table
         }
         _ => {

@@ -1,9 +1,10 @@
 //! Standard lives of calls, for counting instructions. Four octets on standard
 //! input: 0 for a user-originated call (SETUP, connect, CONNECT ACKNOWLEDGE,
-//! RELEASE) or 1 for a network-originated one (offer, CALL PROCEEDING, CONNECT,
-//! clear, RELEASE COMPLETE); how many calls stand beside it; hundreds of lives;
-//! 1, 2 or 4 ranges. Writes the lengths of all replies added up
-//! modulo 1,000,000.
+//! RELEASE), 1 for a network-originated one (offer, CALL PROCEEDING, CONNECT,
+//! clear, RELEASE COMPLETE) or 2 for one that ends at once (SETUP, RELEASE
+//! COMPLETE); how many calls stand beside it; hundreds of lives; which lists it
+//! starts with (`lists`). Writes the lengths of all replies added up modulo
+//! 1,000,000.
 
 use harness::controller::{Answer, Request, Table};
 use std::io::{self, Read};
@@ -63,6 +64,11 @@ impl Life {
         self.count(&answer);
         self.bare(0x80, 1, 0x5A);
     }
+
+    fn brief(&mut self) {
+        self.setup(200);
+        self.bare(0, 200, 0x5A);
+    }
 }
 
 const REQUEST: Request = Request {
@@ -71,20 +77,29 @@ const REQUEST: Request = Request {
     room: 1_024,
 };
 
-/// 32 channels, in 1, 2 or 4 ranges.
-fn ranges(count: u8) -> &'static [u16] {
-    match count {
-        1 => &[0, 32, 63],
-        2 => &[0, 32, 47, 1, 32, 47],
-        _ => &[0, 32, 39, 1, 32, 39, 2, 32, 39, 3, 32, 39],
+/// 1, 2 and 4: 32 channels in so many ranges. 0: 2 channels in one range. 3: 16
+/// channels in four ranges. 5: 36 channels in four ranges, the last two of each
+/// permanent.
+fn lists(which: u8) -> (&'static [u16], &'static [u16]) {
+    match which {
+        0 => (&[0, 32, 33], &[]),
+        1 => (&[0, 32, 63], &[]),
+        2 => (&[0, 32, 47, 1, 32, 47], &[]),
+        3 => (&[0, 32, 35, 1, 32, 35, 2, 32, 35, 3, 32, 35], &[]),
+        5 => (
+            &[0, 32, 40, 1, 32, 40, 2, 32, 40, 3, 32, 40],
+            &[0, 39, 0, 40, 1, 39, 1, 40, 2, 39, 2, 40, 3, 39, 3, 40],
+        ),
+        _ => (&[0, 32, 39, 1, 32, 39, 2, 32, 39, 3, 32, 39], &[]),
     }
 }
 
 fn main() -> io::Result<()> {
     let mut input = [0; 4];
     io::stdin().read_exact(&mut input)?;
-    let [kind, live, hundreds, count] = input;
-    let table = Table::start(ranges(count), &[]).expect("ranges that start takes");
+    let [kind, live, hundreds, which] = input;
+    let (ranges, pairs) = lists(which);
+    let table = Table::start(ranges, pairs).expect("lists that start takes");
     let mut life = Life { table, sum: 0 };
     for reference in 1..=live {
         life.setup(reference);
@@ -92,7 +107,8 @@ fn main() -> io::Result<()> {
     for _ in 0..u32::from(hundreds) * 100 {
         match kind {
             0 => life.user(u64::from(live)),
-            _ => life.network(u64::from(live)),
+            1 => life.network(u64::from(live)),
+            _ => life.brief(),
         }
     }
     println!("{}", life.sum);

@@ -13,11 +13,8 @@ abbrev μ-loop : tie.MeasureT-loop
 loop-holds : tie.Need-loop-holds Inv-loop μ-loop
 loop-holds c = search needs
 
-user-requires : tie.Need-user-requires Inv-loop μ-loop
-user-requires c κs = search needs
-
-network-requires : tie.Need-network-requires Inv-loop μ-loop
-network-requires c κs = search needs
+of-kind-requires : tie.Need-of-kind-requires Inv-loop μ-loop
+of-kind-requires c κs = search needs
 
 add-i : tie.Need-add-i Inv-loop μ-loop
 add-i c = search needs
@@ -38,8 +35,7 @@ lived-spec =
     Inv-loop
     μ-loop
     loop-holds
-    user-requires
-    network-requires
+    of-kind-requires
     add-i
     loop-less
     loop-again

@@ -1,0 +1,5 @@
+pub mod Crowd
+pub mod Marking
+pub mod Pass
+pub mod Walked
+pub mod Once
