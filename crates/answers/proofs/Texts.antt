@@ -12,13 +12,10 @@ use lib.Dec.{eqb}
 use lib.ListN.{length, drop, getD, set, drop-of-length-le}
 use lib.Seq.{drop-cons}
 use borrow.Author.Tests.{eq-eqb, ne-eqb}
+use Rattle.octets.proofs.Cases.{by-test}
 use Rattle.octets.specs.Octets.{Wrote}
-use Rattle.ascii.proofs.Pieces.{Begun, begun-none, begun-more, begun-all}
+use Rattle.octets.proofs.Stores.{Begun, begun-none, begun-more, begun-all}
 use Rattle.answers.specs.Text.{hexGlyph, hexText, slotText, slotsText}
-
-by-test : {P : Type 0} (t : Bool) → (t ≡ true → P) → (t ≡ false → P) → P
-by-test true f g = f refl
-by-test false f g = g refl
 
 pub record Spelled (reply old : List ℕ) (at : ℕ) (out : List ℕ) (next i : ℕ) : Type 0 where
   pub so-far : Begun (hexText reply) (hexText (drop i reply)) old at out next
@@ -33,7 +30,7 @@ module _ (reply old : List ℕ) (at : ℕ) (out : List ℕ) (next i : ℕ) (s : 
       record { so-far = begun-more {piece = pair} (s .so-far) (rw (drop-cons reply i 0 h, add-one)) (record { run = rw add-one; past = refl }) }
 
   pub spelled-all : length reply ≤ i → Wrote old at (hexText reply) out next
-  spelled-all h = begun-all (rw (drop-of-length-le reply {i = i} h) at (s .so-far))
+  spelled-all h = begun-all (s .so-far) (rw (drop-of-length-le reply {i = i} h))
 
 pub record Joined (on : List Bool) (old : List ℕ) (at : ℕ) (out : List ℕ) (next i : ℕ) : Type 0 where
   pub so-far : Begun (slotsText 0 true on) (slotsText i (eqb next at) (drop i on)) old at out next
@@ -54,4 +51,4 @@ module _ (on : List Bool) (old : List ℕ) (at : ℕ) (out : List ℕ) (next i :
       record { so-far = begun-more (s .so-far) (rw (drop-cons on i false h, e, f, add-one)) w2 })
 
   pub joined-all : length on ≤ i → Wrote old at (slotsText 0 true on) out next
-  joined-all h = begun-all (rw (drop-of-length-le on {i = i} h) at (s .so-far))
+  joined-all h = begun-all (s .so-far) (rw (drop-of-length-le on {i = i} h))

@@ -5,17 +5,13 @@
 use Prim.Native.Nat.{ℕ, zero, suc, _+_, _*_, _-_, _/_, _%_, _^_, _≤_, _<_}
 use native.Mathlib.Omega.{arith}
 use native.Mathlib.Nat.{pow-suc, one-le-pow}
-use mathlib.Core.Path.{_≡_, refl, _∙_}
-use mathlib.Core.Bool.{Bool, true, false}
+use mathlib.Core.Path.{_≡_, _∙_}
 use lib.Dec.{ltb}
 use lib.ListN.{length, length-append}
 use borrow.Author.Tests.{lt-ltb, le-ltb}
+use Rattle.octets.proofs.Cases.{by-test}
 use Rattle.io.specs.Digits.{digits, glyph, Fewest}
 use Rattle.ascii.specs.Ascii.{decimalWithin, decimalText}
-
-by-test : {P : Type 0} (t : Bool) → (t ≡ true → P) → (t ≡ false → P) → P
-by-test true f g = f refl
-by-test false f g = g refl
 
 few-within : (k steps n : ℕ) → n < 10 ^ suc k → length (decimalWithin steps n) ≤ suc k
 few-within k zero n h = omega arith

@@ -20,7 +20,7 @@ use channels::Entry;
 use channels::Held;
 ghost use mathlib.Core.Path.{_≡_};
 ghost use mathlib.Core.Bool.{true, false};
-ghost use Prim.Native.Nat.{_+_, _≤_, _<_};
+ghost use Prim.Native.Nat.{_≤_, _<_};
 ghost use lib.ListN.{getD, set, replicate};
 ghost use Rattle.calls.specs.First.{place, Below};
 ghost use Rattle.calls.specs.Calls.{stateNumber, moved, slotsOf, flagsOf, noSlot, isEmpty, isLive, isCall, holdsPair, entryOf, heldOf, emptied, gone, inUse, unusedReference};

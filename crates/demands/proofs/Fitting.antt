@@ -3,18 +3,15 @@
 --   HeaderFits, header-fits        what the header of octets says
 --   heard-writable, fired-writable, connected-writable, cleared-writable     of a message, a tick, connect and clear
 -- Assumes nothing.
-use Prim.Native.Nat.{ℕ, _-_, _<_}
+use Prim.Native.Nat.{ℕ, _<_}
 use mathlib.Core.Path.{_≡_, refl}
 use mathlib.Core.Bool.{Bool, true, false, not, _&&_, _||_, cond}
 use mathlib.Core.List.{List}
 use native.Mathlib.Omega.{arith}
 use lib.Dec.{eqb, ltb}
 use lib.ListN.{getD}
-use borrow.Author.Tests.{ltb-true}
 use Rattle.calls.specs.declared.Clearing.{Clearing}
-use Rattle.octets.specs.Octets.{part}
 use Rattle.traffic.specs.Traffic.{member}
-use Rattle.contents.specs.Contents.{connectionIn as pairIn}
 use Rattle.channels.specs.declared.Channel.{Channel}
 use Rattle.channels.specs.declared.Channel.the-variants.{None, Pair}
 use Rattle.channels.specs.Channels.{permanent, knownVpci}
@@ -31,8 +28,6 @@ use Rattle.header.specs.declared.Header.{Header}
 use Rattle.header.specs.declared.Head.{Head}
 use Rattle.header.specs.declared.Head.the-variants.{Ignored, Is}
 use Rattle.header.specs.Header.{headerIn, headOf}
-use Rattle.elements.specs.declared.Look.{Look}
-use Rattle.elements.specs.declared.Look.the-variants as look
 use Rattle.elements.specs.declared.CauseRead.{CauseRead}
 use Rattle.elements.specs.declared.CauseRead.the-variants as causeRead
 use Rattle.elements.specs.declared.CallStateRead.{CallStateRead}
@@ -41,14 +36,13 @@ use Rattle.elements.specs.declared.ConnectionRead.{ConnectionRead}
 use Rattle.elements.specs.declared.ConnectionRead.the-variants as connectionRead
 use Rattle.elements.specs.declared.RestartRead.{RestartRead}
 use Rattle.elements.specs.declared.RestartRead.the-variants as restartRead
-use Rattle.elements.specs.Elements.{lookFor}
-use Rattle.elements.specs.Values.{read, causeIn, callStateIn, connectionIn, bearerIn, restartIn}
+use Rattle.elements.specs.Values.{causeIn, callStateIn, connectionIn, bearerIn, restartIn}
 use Rattle.replies.specs.declared.Diagnostic.{Diagnostic}
 use Rattle.replies.specs.declared.Diagnostic.the-variants as diagnostic
 use Rattle.replies.specs.declared.Reply.the-variants as reply
 use Rattle.readback.specs.ReadBack.{Octets}
-use Rattle.readback.specs.Replies.{FitsPair, FitsDiagnostic, FitsCause, Fitting}
-use Rattle.readback.proofs.Octets.{octets-take, octets-drop}
+use Rattle.readback.specs.Replies.{FitsDiagnostic, FitsCause, Fitting}
+use Rattle.readback.proofs.PairRead.{ReadFits, connection-fits}
 use Rattle.setup.specs.declared.Admission.{Admission}
 use Rattle.setup.specs.declared.Admission.the-variants.{Admitted, Refused}
 use Rattle.setup.specs.Setup.{absent, broken, foundIn, chosen, someNamed, isMultipoint, allowedIn, admission}
@@ -65,12 +59,12 @@ use Rattle.effects.specs.declared.Table.{Table}
 use Rattle.effects.specs.Restart.{pairRestart, restartEffect}
 use Rattle.effects.specs.Effects.{freePair, onPair, admitted, setupEffect, onNoCall, onHold, addressed, globalEffect, fireHold, fired, noRoom}
 use Rattle.outcome.specs.Refusals.{hostCauses}
+use Rattle.outcome.proofs.Causes.{host-small}
 use Rattle.commands.specs.Commands.{connected, cleared}
 use Rattle.control.specs.Events.{heardBy}
 use Rattle.safety.specs.Tables.{slotAt}
 use Rattle.safety.specs.Sound.{PhaseSound, in-N3, in-N6, in-N9, in-N10, by-host, by-timer, Sound, ReferencesFit}
 use Rattle.safety.proofs.Cases.{by-cond}
-use Rattle.safety.proofs.Cause45.{member-passes}
 use Rattle.safety.proofs.Happenings.{head-is}
 use Rattle.safety.proofs.References.{octets-fit}
 
@@ -95,9 +89,6 @@ no-state-fits n d small fit = record { state = omega arith; why = cause-fits n d
 
 diagnosed-fits : (expired : Bool) → FitsDiagnostic (diagnosed expired)
 diagnosed-fits expired = by-cond FitsDiagnostic expired diagnostic.Timer diagnostic.None tt tt
-
-host-fits : (n : ℕ) → member n hostCauses ≡ true → n < 128
-host-fits n host = ltb-true n 128 (member-passes (λ x. ltb x 128) n hostCauses refl host)
 
 -- A message on a live call.
 
@@ -151,7 +142,7 @@ expire-fits full last reading network phase (in-N6 d below) = tt
 expire-fits full last reading network phase (in-N9 d below) = released-fits reading false 102 true (omega arith)
 expire-fits full last reading network phase (in-N10 n) = tt
 expire-fits full last reading network phase (by-host n k below host plain) =
-    by-cond VerdictFits (k .second) _ (released reading true (k .cause) (k .expired)) (second-fits full reading k) (released-fits reading true (k .cause) (k .expired) (host-fits (k .cause) host))
+    by-cond VerdictFits (k .second) _ (released reading true (k .cause) (k .expired)) (second-fits full reading k) (released-fits reading true (k .cause) (k .expired) (host-small (k .cause) host))
 expire-fits full last reading network phase (by-timer k below cause timed) =
     by-cond VerdictFits (k .second) _ (released reading true (k .cause) (k .expired)) (second-fits full reading k) (released-fits reading true (k .cause) (k .expired) (rw cause (omega arith)))
 
@@ -196,23 +187,6 @@ pub record HeaderFits (h : Header) : Type 0 where
 
 header-fits : (m : List ℕ) → Octets m → HeaderFits (headerIn m)
 header-fits m o = record { reference = octets-fit (getD m 2 0) (getD m 3 0) (getD m 4 0) (o .at 3) (o .at 4); kind = o .at 5 }
-
-abbrev ReadFits : ConnectionRead → Type 0
-ReadFits connectionRead.Absent = Unit {0}
-ReadFits connectionRead.Unreadable = Unit {0}
-ReadFits (connectionRead.Pair p v) = FitsPair p v
-
-pair-fits : (c : List ℕ) → Octets c → FitsPair (pairIn c .vpci) (pairIn c .vci)
-pair-fits c o = record { vpci = omega (arith, o .at 1, o .at 2); vci = omega (arith, o .at 3, o .at 4) }
-
-look-fits : (m : List ℕ) → Octets m → (l : Look)
-    → ReadFits (read m connectionRead.Absent connectionRead.Unreadable (λ c. connectionRead.Pair (pairIn c .vpci) (pairIn c .vci)) l)
-look-fits m o look.Absent = tt
-look-fits m o look.Unreadable = tt
-look-fits m o (look.Readable start end) = pair-fits (part m start end) (octets-take (end - start) (octets-drop start o))
-
-connection-fits : (m : List ℕ) → Octets m → ReadFits (connectionIn m 9)
-connection-fits m o = look-fits m o (lookFor m 9 0x5A)
 
 -- Effects.
 
@@ -308,4 +282,4 @@ module _ (t : Table) where
     pub cleared-writable : (reading i cause : ℕ) (k : Hold) → slotAt t i .hold ≡ k → member cause hostCauses ≡ true → Writable (cleared t reading i cause k)
     cleared-writable reading i cause Empty e host = record { reference = omega arith; fits = tt }
     cleared-writable reading i cause (Live c) e host =
-        record { reference = f i c e; fits = released-fits reading false cause false (host-fits cause host) }
+        record { reference = f i c e; fits = released-fits reading false cause false (host-small cause host) }

@@ -10,7 +10,7 @@ use mathlib.Core.List.{List}
 use lib.ListN.{length, drop, getD, drop-of-length-le}
 use lib.Seq.{drop-cons}
 use Rattle.octets.specs.Octets.{Wrote}
-use Rattle.ascii.proofs.Pieces.{Begun, begun-none, begun-more, begun-all}
+use Rattle.octets.proofs.Stores.{Begun, begun-none, begun-more, begun-all}
 use Rattle.calls.specs.Calls.{noSlot}
 use Rattle.calls.specs.declared.Slot.{Slot}
 use Rattle.script.specs.declared.Request.{Request}
@@ -28,4 +28,4 @@ module _ {request : Request} {came : List ℕ} {before after : List Slot} {old o
   shown-more h e f g w = record { so-far = begun-more (s .so-far) (rw (drop-cons before i noSlot h, add-one, g, e, f)) w }
 
   pub shown-all : length before ≤ i → Wrote old at (slotsText request came 0 before after) out next
-  shown-all h = begun-all (rw (drop-of-length-le before {i = i} h) at (s .so-far))
+  shown-all h = begun-all (s .so-far) (rw (drop-of-length-le before {i = i} h))

@@ -4,33 +4,23 @@
 --   acknowledged                 one with the pair is
 --   other-pair                   one with another pair is not
 --   all-acknowledged             one for all is
---   connection-fits              the pair of a message of octets has two numbers of two octets
 -- Assumes nothing.
-use Prim.Native.Nat.{ℕ, _-_, _<_}
+use Prim.Native.Nat.{ℕ, _<_}
 use mathlib.Core.Path.{_≡_, refl, sym, ap, _∙_}
 use mathlib.Core.Bool.{Bool, true, false, _&&_, _||_, or-true}
 use mathlib.Core.List.{List}
-use native.Mathlib.Omega.{arith}
 use lib.Dec.{eqb}
 use lib.ListN.{getD}
 use borrow.Author.Tests.{eq-eqb}
-use Rattle.octets.specs.Octets.{high, low, equal, part}
+use Rattle.octets.specs.Octets.{high, low, equal}
 use Rattle.octets.proofs.Equal.{equal-same, same-equal}
-use Rattle.contents.specs.Contents.{connectionIn as pairIn}
+use Rattle.octets.proofs.Numbers.{number-back}
 use Rattle.channels.proofs.Cases.{by-test, clash}
-use Rattle.elements.specs.declared.Look.{Look}
-use Rattle.elements.specs.declared.Look.the-variants.{Absent, Unreadable, Readable}
-use Rattle.elements.specs.declared.ConnectionRead.{ConnectionRead}
-use Rattle.elements.specs.declared.ConnectionRead.the-variants as connectionRead
-use Rattle.elements.specs.Elements.{lookFor}
-use Rattle.elements.specs.Values.{read, connectionIn}
 use Rattle.replies.specs.declared.Reply.{Reply}
 use Rattle.replies.specs.declared.Reply.the-variants as reply
 use Rattle.replies.specs.Reply.{kindOf, replyOctets, setupOctets}
-use Rattle.readback.specs.ReadBack.{Octets}
 use Rattle.readback.specs.Replies.{FitsPair}
-use Rattle.readback.proofs.Octets.{octets-take, octets-drop}
-use Rattle.readback.proofs.Walked.{number-back}
+use Rattle.safety.proofs.Slips.{reply-kind}
 
 -- RESTART ACKNOWLEDGE with the pair, or for all, by its octets
 abbrev pub saysRestarted : List ℕ → ℕ → ℕ → Bool
@@ -46,24 +36,12 @@ differ k a b n =
 abbrev pub Other : Reply → Type 0
 Other a = eqb (kindOf a) 0x4E ≡ false
 
-kind-octet : (flag : Bool) (r : ℕ) (a : Reply) → getD (replyOctets flag r a) 5 0 ≡ kindOf a
-kind-octet flag r reply.None = refl
-kind-octet flag r (reply.CallProceeding p v) = refl
-kind-octet flag r reply.Connect = refl
-kind-octet flag r reply.ConnectAcknowledge = refl
-kind-octet flag r (reply.Release c) = refl
-kind-octet flag r reply.ReleaseComplete = refl
-kind-octet flag r (reply.ReleaseCompleteWith c) = refl
-kind-octet flag r (reply.Status s c) = refl
-kind-octet flag r reply.RestartAcknowledgeAll = refl
-kind-octet flag r (reply.RestartAcknowledge p v) = refl
-
 other-type : (sent : List ℕ) (p v : ℕ) → eqb (getD sent 5 0) 0x4E ≡ false → saysRestarted sent p v ≡ false
 other-type sent p v n =
     rw (differ 5 sent (replyOctets true 0 (reply.RestartAcknowledge p v)) n, differ 5 sent (replyOctets true 0 reply.RestartAcknowledgeAll) n)
 
 pub not-acknowledged : (p v : ℕ) (flag : Bool) (r : ℕ) (a : Reply) → Other a → saysRestarted (replyOctets flag r a) p v ≡ false
-not-acknowledged p v flag r a n = other-type (replyOctets flag r a) p v (rw (kind-octet flag r a) n)
+not-acknowledged p v flag r a n = other-type (replyOctets flag r a) p v (rw (reply-kind flag r a) n)
 
 pub setup-not-acknowledged : (p v r q w : ℕ) (offered : List ℕ) → saysRestarted (setupOctets r q w offered) p v ≡ false
 setup-not-acknowledged p v r q w offered = other-type (setupOctets r q w offered) p v refl
@@ -95,21 +73,3 @@ other-pair p v q w f g other =
     clash (rw (eq-eqb q p vpci, eq-eqb w v vci)) other)
     (λ z. z) in
     rw not-same
-
--- "then VPCI, VCI", two octets each
-abbrev pub ReadFits : ConnectionRead → Type 0
-ReadFits connectionRead.Absent = Unit {0}
-ReadFits connectionRead.Unreadable = Unit {0}
-ReadFits (connectionRead.Pair p v) = FitsPair p v
-
-pair-fits : (c : List ℕ) → Octets c → FitsPair (pairIn c .vpci) (pairIn c .vci)
-pair-fits c o = record { vpci = omega (arith, o .at 1, o .at 2); vci = omega (arith, o .at 3, o .at 4) }
-
-look-fits : (m : List ℕ) → Octets m → (l : Look)
-    → ReadFits (read m connectionRead.Absent connectionRead.Unreadable (λ c. connectionRead.Pair (pairIn c .vpci) (pairIn c .vci)) l)
-look-fits m o Absent = tt
-look-fits m o Unreadable = tt
-look-fits m o (Readable start end) = pair-fits (part m start end) (octets-take (end - start) (octets-drop start o))
-
-pub connection-fits : (m : List ℕ) → ((k : ℕ) → getD m k 0 < 256) → ReadFits (connectionIn m 9)
-connection-fits m o = look-fits m (record { at = o }) (lookFor m 9 0x5A)

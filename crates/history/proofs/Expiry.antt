@@ -3,41 +3,36 @@
 -- Assumes nothing.
 use Prim.Native.Nat.{ℕ, _<_}
 use mathlib.Core.Path.{_≡_, refl, sym, ap, _∙_}
-use mathlib.Core.Bool.{Bool, true, false, cond, not, _&&_, and-false}
-use mathlib.Core.List.{List, []}
+use mathlib.Core.Bool.{Bool, true, false, not, and-false}
+use mathlib.Core.List.{[]}
 use lib.Dec.{eqb}
-use lib.ListN.{length, getD, set}
+use lib.ListN.{length}
 use lib.Seq.{getD-set-same}
-use borrow.Author.Tests.{eq-eqb, eqb-true}
-use Rattle.channels.specs.Channels.{isEntry, among}
-use Rattle.channels.specs.Doubts.{isFull, pairEntry, doubtsOf, doubtsAfter}
-use Rattle.channels.specs.declared.Doubting.{Doubting}
-use Rattle.channels.specs.declared.Doubting.the-variants.{Keep, Begin}
+use borrow.Author.Tests.{eq-eqb}
+use Rattle.channels.specs.Channels.{isEntry}
+use Rattle.channels.specs.Doubts.{isFull, pairEntry}
 use Rattle.channels.proofs.Cases.{clash}
 use Rattle.channels.proofs.InDoubt.{sunk-among}
-use Rattle.calls.specs.declared.Clearing.{Clearing}
 use Rattle.calls.specs.declared.Phase.{Phase}
 use Rattle.calls.specs.declared.Phase.the-variants.{N3, N6, N9, N10, N12}
 use Rattle.calls.specs.declared.Call.{Call}
 use Rattle.calls.specs.declared.Hold.{Hold}
 use Rattle.calls.specs.declared.Hold.the-variants.{Live}
-use Rattle.calls.specs.declared.Slot.{Slot}
-use Rattle.calls.specs.declared.Found.the-variants.{At}
 use Rattle.calls.specs.Calls.{noSlot, moved}
-use Rattle.calls.specs.Timers.{someDue, nextDue}
+use Rattle.calls.specs.Timers.{someDue}
 use Rattle.replies.specs.declared.Reply.{Reply}
 use Rattle.replies.specs.declared.Reply.the-variants as reply
 use Rattle.replies.specs.Reply.{replyOctets}
 use Rattle.judging.specs.declared.Verdict.{Verdict}
 use Rattle.judging.specs.Verdict.{ended}
-use Rattle.judging.specs.Judge.{waiting, expire, lastT308}
+use Rattle.judging.specs.Judge.{expire, lastT308}
 use Rattle.effects.specs.declared.Effect.{Effect}
 use Rattle.effects.specs.declared.Table.{Table}
 use Rattle.effects.specs.Effect.{fated, onSlot, doubting}
 use Rattle.effects.specs.Effects.{noRoom, doubtOf, fireHold, fired, tickEffect}
 use Rattle.outcome.specs.Outcome.{Outcome, sending, effectReply}
 use Rattle.control.specs.Happens.{tick, happens}
-use Rattle.safety.specs.Tables.{slotAt, HasCall, InDoubt}
+use Rattle.safety.specs.Tables.{slotAt, InDoubt}
 use Rattle.safety.specs.Sound.{Sound}
 use Rattle.safety.proofs.Tables.{live-within}
 use Rattle.safety.proofs.Refusals.{refusalOf}

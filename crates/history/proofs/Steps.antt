@@ -53,6 +53,7 @@ use Rattle.replies.specs.declared.Reply.{Reply}
 use Rattle.replies.specs.declared.Reply.the-variants as reply
 use Rattle.replies.specs.Reply.{replyOctets, setupOctets}
 use Rattle.readback.specs.Replies.{FitsPair}
+use Rattle.readback.proofs.PairRead.{ReadFits, connection-fits}
 use Rattle.setup.specs.declared.Admission.{Admission}
 use Rattle.setup.specs.declared.Admission.the-variants.{Admitted, Refused}
 use Rattle.setup.specs.Setup.{admission}
@@ -79,7 +80,7 @@ use Rattle.safety.proofs.Refusals.{refusalOf}
 use Rattle.safety.proofs.FixedAnswers.{outcomeOf, happens-unless}
 use Rattle.history.specs.History.{wayIn, flaggedOn, assigned, ended, lastOn, isTick, expired, restarted, nextWay}
 use Rattle.history.proofs.Marks.{flagged-at, flagged-apart, some-set, some-emptied, none-emptied, all-told}
-use Rattle.history.proofs.Acknowledged.{saysRestarted, Other, not-acknowledged, setup-not-acknowledged, acknowledged, all-acknowledged, other-pair, ReadFits, connection-fits}
+use Rattle.history.proofs.Acknowledged.{saysRestarted, Other, not-acknowledged, setup-not-acknowledged, acknowledged, all-acknowledged, other-pair}
 use Rattle.history.proofs.Verdicts.{Decided, stays, turns, ends, judged-decided, no-call-other, global-other}
 
 -- a slot that holds a pair has a live call on it
@@ -452,7 +453,7 @@ module _ (t : Table) (s : Sound t) (p v : ℕ) (ok : permitted (t .pool) p v ≡
     offered-steps (At i) found = offered-on-steps i (freePair t) refl found
 
   outcome-steps : (e : Event) → InOctets e → Steps e (outcomeOf t e)
-  outcome-steps (message label reading room m) octets = head-steps label reading room m (headOf m) (connection-fits m octets)
+  outcome-steps (message label reading room m) octets = head-steps label reading room m (headOf m) (connection-fits m (record { at = octets }))
   outcome-steps (tick label reading room) octets = fired-steps label reading room (nextDue reading ss)
   outcome-steps (connect label reading room slot) octets = connected-steps label reading room slot (holdAt t slot) refl
   outcome-steps (clear label reading room slot cause) octets = cleared-steps label reading room slot cause (holdAt t slot) refl

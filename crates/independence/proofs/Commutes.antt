@@ -13,8 +13,6 @@ use lib.Dec.{eqb}
 use borrow.Author.Tests.{eqb-true}
 use Rattle.reorder.specs.Reorder.{Commute}
 use Rattle.reorder.proofs.Commute.{commute-sym, commute-by, commute-refused}
-use Rattle.channels.specs.declared.Pool.{Pool}
-use Rattle.channels.specs.Channels.{taken, lowest}
 use Rattle.channels.proofs.Cases.{by-test, clash}
 use Rattle.calls.specs.declared.Slot.{Slot}
 use Rattle.calls.specs.Calls.{noSlot, isEmpty}

@@ -6,8 +6,8 @@
 use Prim.Native.Nat.{ℕ, suc, _+_, _≤_, _<_}
 use native.Mathlib.Omega.{arith}
 use native.Mathlib.Numerals.{add-one}
-use mathlib.Core.Path.{_≡_, refl, sym, ap, _∙_}
-use mathlib.Core.Bool.{Bool, true, false, _&&_, true≢false}
+use mathlib.Core.Path.{_≡_, refl, sym, ap}
+use mathlib.Core.Bool.{Bool, true, false, _&&_, and-false, true≢false}
 use mathlib.Core.List.{List, [], _∷_}
 use lib.Dec.{eqb}
 use lib.ListN.{length, drop, getD, drop-of-length-le}
@@ -24,10 +24,6 @@ module _ (a b : List ℕ) (i : ℕ) (same : length a ≡ length b) where
 
   pub equal-end : length a ≤ i → equal (drop i a) (drop i b) ≡ true
   equal-end h = let g : length b ≤ i = omega arith in rw (drop-of-length-le a {i = i} h, drop-of-length-le b {i = i} g)
-
-and-false : (t : Bool) → (t && false) ≡ false
-and-false true = refl
-and-false false = refl
 
 pub equal-lengths : (a b : List ℕ) → (length a ≡ length b → ⊥) → equal a b ≡ false
 equal-lengths [] [] h = absurd (h refl)

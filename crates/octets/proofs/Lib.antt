@@ -1,3 +1,4 @@
 pub mod Cases
 pub mod Stores
 pub mod Equal
+pub mod Numbers

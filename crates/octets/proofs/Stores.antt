@@ -1,12 +1,14 @@
--- Laws of stores one after the other. Every writer of every crate cites `chain`, and every reply `chained`.
+-- Laws of stores one after the other. Every writer of every crate cites `chain`, every reply `chained`, and a loop that writes texts or elements `Begun`.
 --   sets-append     a run of stores, then another behind it, is the run of both
 --   sets-one-more   one store more
 --   chain           two writers, the second where the first ended
 --   chained         a run from place 0 that fits fills the front
+--   wrote-none      a writer that puts nothing
+--   Begun, begun-none, begun-more, begun-all     a run that is written piece by piece: a part is written, and the rest is left
 -- Assumes nothing.
 use Prim.Native.Nat.{ℕ, suc, _+_, _≤_, _<_}
-use mathlib.Core.Path.{_≡_, sym, ap, _∙_}
-use mathlib.Core.List.{List, [], _∷_, _++_}
+use mathlib.Core.Path.{_≡_, refl, sym, ap, _∙_}
+use mathlib.Core.List.{List, [], _∷_, _++_, append-assoc, append-nil}
 use native.Mathlib.Omega.{arith}
 use native.Mathlib.Numerals.{add-one}
 use lib.ListN.{length, take, drop, set, getD, length-append, length-take}
@@ -38,3 +40,25 @@ pub chained : {l vs l₁ : List ℕ} {k : ℕ} → Wrote l 0 vs l₁ k → lengt
 chained {l} {vs} a h =
     let z : 0 + length vs ≡ length vs = omega arith in
     (omega (arith, a .past), a .run ∙ sets-eq vs l 0 (omega arith) ∙ ap (λ (n : ℕ). vs ++ drop n l) z)
+
+pub wrote-none : (old : List ℕ) (at : ℕ) → Wrote old at [] old at
+wrote-none old at = record { run = refl; past = omega arith }
+
+-- of `whole`, all but `rest` was written at place `at` of `old`, which left `new`; the rest goes to `next`
+pub record Begun (whole rest old : List ℕ) (at : ℕ) (new : List ℕ) (next : ℕ) : Type 0 where
+  pub written : List ℕ
+  pub left : whole ≡ written ++ rest
+  pub wrote : Wrote old at written new next
+
+pub begun-none : (whole old : List ℕ) (at : ℕ) → Begun whole whole old at old at
+begun-none whole old at = record { written = []; left = refl; wrote = wrote-none old at }
+
+pub begun-more : {whole rest piece more old new newer : List ℕ} {at next end : ℕ}
+    → Begun whole rest old at new next → rest ≡ piece ++ more → Wrote new next piece newer end → Begun whole more old at newer end
+begun-more {piece = piece} b e w =
+    record { written = b .written ++ piece; left = b .left ∙ rw (e, append-assoc); wrote = chain (b .wrote) w }
+
+pub begun-all : {whole rest old new : List ℕ} {at next : ℕ} → Begun whole rest old at new next → rest ≡ [] → Wrote old at whole new next
+begun-all {whole = whole} b e =
+    let all : whole ≡ b .written = b .left ∙ rw (e, append-nil) in
+    rw all (b .wrote)

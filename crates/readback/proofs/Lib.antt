@@ -1,4 +1,5 @@
 pub mod Octets
+pub mod PairRead
 pub mod Walked
 pub mod ReadBack
 pub mod WriteBack

@@ -2,30 +2,21 @@
 --   octets-read-back     the octets of every well-formed message read as that message
 --   written-octets       and each of them is below 256
 -- Assumes nothing.
-use Prim.Native.Nat.{ℕ, _+_, _*_, _-_, _/_, _%_, _<_}
+use Prim.Native.Nat.{ℕ, _+_, _-_, _/_, _%_, _<_}
 use mathlib.Core.Path.{_≡_, refl, _∙_}
 use mathlib.Core.Bool.{Bool, true, false, cond}
 use mathlib.Core.List.{List, _++_}
 use native.Mathlib.Omega.{arith}
-use lib.Dec.{leb}
-use borrow.Author.Tests.{le-ltb, le-leb, lt-leb, eq-eqb}
+use borrow.Author.Tests.{le-ltb, eq-eqb}
 use lib.ListN.{length}
 use Rattle.octets.specs.Octets.{high, low, number}
+use Rattle.octets.proofs.Numbers.{number-back, flag-back, reference-back}
 use Rattle.header.specs.Header.{headOf}
 use Rattle.header.specs.declared.Head.the-variants.{Is}
 use Rattle.replies.specs.Message.{Element, body, Message, header, octets}
 use Rattle.readback.specs.ReadBack.{readMessage, reads, Octets, EachFits, none, more, WellFormed}
 use Rattle.readback.proofs.Octets.{no-octets, octets-cons, octets-append}
-use Rattle.readback.proofs.Walked.{number-back, walked}
-
-flag-back : (flag : Bool) (r : ℕ) → leb 128 (cond flag 0x80 0 + r / 65536 % 128) ≡ flag
-flag-back true r = le-leb 128 (0x80 + r / 65536 % 128) (omega arith)
-flag-back false r = lt-leb 128 (0 + r / 65536 % 128) (omega arith)
-
-reference-back : (flag : Bool) (r : ℕ) → r < 8388608
-    → ((cond flag 0x80 0 + r / 65536 % 128) % 128) * 65536 + (r / 256 % 256) * 256 + r % 256 ≡ r
-reference-back true r h = omega arith
-reference-back false r h = omega arith
+use Rattle.readback.proofs.Walked.{walked}
 
 -- the header of a written message says what it was given
 header-back : (flag : Bool) (r kind : ℕ) (rest : List ℕ) → r < 8388608 → length rest < 65536

@@ -20,6 +20,7 @@ use Rattle.octets.specs.Octets.{part}
 use Rattle.contents.specs.Contents.{causeNumber, callStateValue, connectionIn as pairIn, restartClass}
 use Rattle.contents.specs.Fits.{fits}
 use Rattle.octets.proofs.Cases.{by-test}
+use Rattle.octets.proofs.Numbers.{number-back}
 use Rattle.elements.specs.declared.Item.{Item}
 use Rattle.elements.specs.declared.Item.the-variants.{End, Overrun, Whole}
 use Rattle.elements.specs.declared.CauseRead.the-variants.{Number}
@@ -40,7 +41,7 @@ use Rattle.replies.specs.Reply.{cause, callState, connection, elementsOf, isSil
 use Rattle.readback.specs.ReadBack.{elementsAmong, elementsIn, WellFormed}
 use Rattle.readback.specs.Replies.{FitsPair, FitsCause, FitsStatus, Fitting, OfferBody, setupMeant}
 use Rattle.readback.specs.Said.{valueIn, causeOf, stateOf, pairOf, restartOf}
-use Rattle.readback.proofs.Walked.{number-back, walked}
+use Rattle.readback.proofs.Walked.{walked}
 use Rattle.readback.proofs.Sent.{reply-written, reply-well-formed, setup-written, setup-well-formed}
 
 module _ {A : Type 0} (id : ℕ) (absent unread : A) (value : List ℕ → A) where

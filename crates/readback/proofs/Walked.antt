@@ -1,5 +1,4 @@
 -- The walk over elements that were written one after the other, behind any octets.
---   number-back     a number, from its high and its low octet
 --   whole-at        an element that does not overrun
 --   Walked, walked  the octets are a whole number of elements, and these are the ones that were written
 -- Assumes nothing.
@@ -12,16 +11,14 @@ use lib.Dec.{ltb}
 use borrow.Author.Tests.{lt-ltb, le-ltb, eq-eqb, ltb-false}
 use lib.ListN.{length, getD, length-append}
 use lib.Seq.{getD-append-add, drop-append-add, take-at}
-use Rattle.octets.specs.Octets.{high, low, number, part}
+use Rattle.octets.specs.Octets.{part}
 use Rattle.octets.proofs.Cases.{by-test}
+use Rattle.octets.proofs.Numbers.{number-back}
 use Rattle.elements.specs.declared.Item.the-variants.{Whole}
 use Rattle.elements.specs.Elements.{contentLength, itemAt, items, wholeFrom}
 use Rattle.elements.proofs.Items.{items-on}
 use Rattle.replies.specs.Message.{Element, elementOctets, body}
 use Rattle.readback.specs.ReadBack.{elementsIn, EachFits, none, more}
-
-pub number-back : (n : ℕ) → n < 65536 → number (high n) (low n) ≡ n
-number-back n h = omega arith
 
 pub whole-at : (m : List ℕ) (at n : ℕ) → contentLength m at ≡ n → at + 4 + n ≤ length m
     → itemAt m at ≡ Whole (getD m at 0) (getD m (at + 1) 0) (at + 4) (at + 4 + n)

@@ -17,7 +17,6 @@ use lib.Dec.{eqb}
 use lib.ListN.{length, getD, set, take, drop, length-take, drop-of-length-le}
 use lib.Seq.{drop-cons, getD-drop, getD-set-same, getD-set-other, take-suc-set, take-all}
 use borrow.Author.Tests.{eqb-true, eqb-false}
-use Rattle.octets.specs.Octets.{number}
 use Rattle.channels.proofs.Cases.{by-test}
 use Rattle.channels.specs.declared.Entry.{Entry}
 use Rattle.channels.specs.declared.Doubts.{Doubts}

@@ -1,12 +1,11 @@
 -- A whole message is its header and then its elements: what the writers of messages cite.
 --   body-size       how long elements one after the other are
---   no-more         a writer that puts nothing
 --   whole           a header with the right length field, and then the elements, is the message
 -- Assumes nothing.
 use Prim.Native.Nat.{ℕ, _+_, _≤_}
-use mathlib.Core.Path.{_≡_, refl}
+use mathlib.Core.Path.{_≡_}
 use mathlib.Core.Bool.{Bool}
-use mathlib.Core.List.{List, [], _∷_, _++_}
+use mathlib.Core.List.{List, _∷_, _++_}
 use native.Mathlib.Omega.{arith}
 use lib.ListN.{length, length-append}
 use Rattle.octets.specs.Octets.{Wrote, Fills}
@@ -15,9 +14,6 @@ use Rattle.replies.specs.Message.{Element, elementOctets, body, header, 
 
 pub body-size : (e : Element) (es : List Element) → length (body (e ∷ es)) ≡ 4 + length (e .contents) + length (body es)
 body-size e es = rw (length-append (elementOctets e) (body es)) (omega arith)
-
-pub no-more : (l : List ℕ) (at : ℕ) → Wrote l at [] l at
-no-more l at = record { run = refl; past = omega arith }
 
 pub whole : (flag : Bool) (r kind size : ℕ) (es : List Element) {l l₁ : List ℕ} {n : ℕ}
     → length (body es) ≡ size

@@ -3,15 +3,15 @@
 --   call-back                one call's field
 --   slots-back               the fields of a list of slots
 -- Assumes nothing.
-use Prim.Native.Nat.{ℕ, zero, suc, _+_, _≤_, _<_}
-use mathlib.Core.Path.{_≡_, refl, sym, ap, _∙_}
+use Prim.Native.Nat.{ℕ, suc, _+_, _≤_, _<_}
+use mathlib.Core.Path.{_≡_, refl, ap, _∙_}
 use mathlib.Core.Bool.{Bool, true, false, cond}
 use mathlib.Core.List.{List, [], _∷_, _++_}
-use mathlib.Core.Logic.{_≢_}
 use native.Mathlib.Omega.{arith}
-use lib.Dec.{eqb, ltb}
-use lib.ListN.{length, getD}
+use lib.Dec.{eqb}
+use lib.ListN.{length}
 use borrow.Author.Tests.{eq-eqb, ne-eqb, lt-ltb}
+use Rattle.octets.proofs.Numbers.{number-back, flag-back, reference-back}
 use Rattle.calls.specs.declared.Clearing.{Clearing}
 use Rattle.calls.specs.declared.Phase.{Phase}
 use Rattle.calls.specs.declared.Phase.the-variants.{N3, N6, N9, N10, N12}
@@ -19,10 +19,9 @@ use Rattle.calls.specs.declared.Call.{Call}
 use Rattle.calls.specs.declared.Hold.{Hold}
 use Rattle.calls.specs.declared.Hold.the-variants.{Empty, Live}
 use Rattle.calls.specs.declared.Slot.{Slot}
-use Rattle.calls.specs.Calls.{noSlot}
 use Rattle.saved.specs.Form.{field, phaseOctets, callOctets, holdField, callFields}
 use Rattle.reload.specs.Reading.{phaseIn, callIn, begins, slotsIn}
-use Rattle.roundtrip.proofs.Numbers.{two-back, eight-back, reference-back, side-back}
+use Rattle.roundtrip.proofs.Numbers.{eight-back}
 use Rattle.roundtrip.proofs.Fields.{rest-back}
 
 -- a deadline has room in eight octets; the cause says the diagnostic
@@ -59,10 +58,10 @@ phase-back a b c d e f g h i j k (N12 q) post s = clearing-back q _ (eight-back 
 pub call-back : (slot : ℕ) (c : Call) (post : List ℕ) → CallFits c → callIn (field 4 (callOctets slot c) ++ post) ≡ c
 call-back slot c post s =
     rw (
-      side-back (c .network) (c .reference),
+      flag-back (c .network) (c .reference),
       reference-back (c .network) (c .reference) (s .reference),
-      two-back (c .vpci) (s .vpci),
-      two-back (c .vci) (s .vci),
+      number-back (c .vpci) (s .vpci),
+      number-back (c .vci) (s .vci),
       phase-back _ _ _ _ _ _ _ _ _ _ _ (c .phase) post (s .phase),
     )
 

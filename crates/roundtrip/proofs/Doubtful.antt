@@ -4,17 +4,17 @@
 --   sound-doubtful       those of a sound table
 --   sound-doubts-kept    the reader keeps them
 -- Assumes nothing.
-use Prim.Native.Nat.{ℕ, zero, suc, _+_, _*_, _/_, _%_, _≤_, _<_}
+use Prim.Native.Nat.{ℕ, zero, suc, _+_, _/_, _%_, _≤_, _<_}
 use mathlib.Core.Path.{_≡_, refl, sym, ap, _∙_}
-use mathlib.Core.Bool.{Bool, true, false, cond, not, _&&_, _||_, or-true}
+use mathlib.Core.Bool.{true, false, _||_, or-true}
 use mathlib.Core.List.{List, [], _∷_, _++_}
 use native.Mathlib.Omega.{arith}
-use lib.Dec.{eqb, ltb}
+use lib.Dec.{ltb}
 use lib.ListN.{length, getD}
 use borrow.Author.Tests.{eq-eqb, lt-ltb, le-ltb}
 use Rattle.channels.specs.Some.{someOf}
-use Rattle.channels.specs.Channels.{isPair, isEntry, among, permitted, noEntry}
-use Rattle.channels.specs.Doubts.{doubtRoom, noChannel, isNone, leads, tidy}
+use Rattle.channels.specs.Channels.{isEntry, among, permitted, noEntry}
+use Rattle.channels.specs.Doubts.{noChannel, isNone, leads, tidy}
 use Rattle.channels.specs.declared.Channel.{Channel}
 use Rattle.channels.specs.declared.Channel.the-variants.{None, Pair}
 use Rattle.channels.specs.declared.Entry.{Entry}
@@ -22,12 +22,10 @@ use Rattle.channels.proofs.Cases.{by-test, clash, both}
 use Rattle.provisioning.specs.Provisioning.{entryAt, numbered}
 use Rattle.calls.specs.Calls.{holdsPair}
 use Rattle.effects.specs.declared.Table.{Table}
-use Rattle.reload.specs.Reading.{entriesIn}
 use Rattle.reload.specs.Reload.{channelLost, isLost, doubtsKept}
-use Rattle.safety.specs.Tables.{Holds, InDoubt}
 use Rattle.safety.specs.Sound.{Sound}
 use Rattle.safety.proofs.Tables.{some-held}
-use Rattle.roundtrip.proofs.Lists.{Whole, numbered-shift, entry-shift}
+use Rattle.roundtrip.proofs.Lists.{numbered-shift, entry-shift}
 use Rattle.roundtrip.proofs.Tables.{Doubtful}
 
 abbrev channelNumbers : Channel → List ℕ

@@ -2,20 +2,20 @@
 --   size-back, rest-back          of any field
 --   numbers-back, list-back       a field of numbers
 -- Assumes nothing.
-use Prim.Native.Nat.{ℕ, zero, suc, _+_, _*_, _/_, _≤_, _<_}
-use mathlib.Core.Path.{_≡_, refl, ap}
+use Prim.Native.Nat.{ℕ, suc, _+_, _*_, _/_, _≤_, _<_}
+use mathlib.Core.Path.{_≡_, refl}
 use mathlib.Core.List.{List, [], _∷_, _++_}
 use native.Mathlib.Omega.{arith}
-use lib.ListN.{length, getD, drop}
+use lib.ListN.{length, getD}
 use lib.Seq.{drop-append-seam}
 use borrow.Author.Tests.{le-ltb}
+use Rattle.octets.proofs.Numbers.{number-back}
 use Rattle.saved.specs.Form.{two, field, joined}
 use Rattle.reload.specs.Reading.{twoAt, rest, numbersIn, listIn}
-use Rattle.roundtrip.proofs.Numbers.{two-back}
 
 module _ (tag : ℕ) (contents post : List ℕ) (short : length contents < 65536) where
   pub size-back : twoAt (field tag contents ++ post) 1 ≡ length contents
-  size-back = two-back (length contents) short
+  size-back = number-back (length contents) short
 
   pub rest-back : rest (field tag contents ++ post) ≡ post
   rest-back =
@@ -28,7 +28,7 @@ joined-two (n ∷ ns) = let ih = joined-two ns in omega (arith, ih)
 
 pub numbers-back : (ns post : List ℕ) → ((k : ℕ) → getD ns k 0 < 65536) → numbersIn (joined two ns ++ post) (length ns) ≡ ns
 numbers-back [] post h = refl
-numbers-back (n ∷ ns) post h = rw (two-back n (h 0), numbers-back ns post (λ k. h (suc k)))
+numbers-back (n ∷ ns) post h = rw (number-back n (h 0), numbers-back ns post (λ k. h (suc k)))
 
 pub list-back : (most tag : ℕ) (ns post : List ℕ) → ((k : ℕ) → getD ns k 0 < 65536) → length ns ≤ most → most < 32768
     → listIn most (field tag (joined two ns) ++ post) ≡ ns

@@ -3,19 +3,14 @@
 --   only-place         the one slot that passes a test is the first
 --   sound-kept         every slot
 -- Assumes nothing.
-use Prim.Native.Nat.{ℕ, zero, suc, _≤_, _<_}
-use mathlib.Core.Path.{_≡_, refl, sym, ap, _∙_}
-use mathlib.Core.Logic.{_≢_}
-use mathlib.Core.Bool.{Bool, true, false, not, _&&_}
+use Prim.Native.Nat.{ℕ, zero, suc, _<_}
+use mathlib.Core.Path.{_≡_, refl}
+use mathlib.Core.Bool.{Bool, true}
 use mathlib.Core.List.{List}
-use native.Mathlib.Omega.{arith}
-use lib.Dec.{eqb, leb}
 use lib.ListN.{length, getD}
 use borrow.Author.Tests.{eq-eqb, ne-eqb, le-leb}
-use Rattle.traffic.specs.Traffic.{member}
 use Rattle.channels.proofs.Cases.{clash}
 use Rattle.channels.proofs.Some.{some-at}
-use Rattle.calls.specs.declared.Clearing.{Clearing}
 use Rattle.calls.specs.declared.Phase.{Phase}
 use Rattle.calls.specs.declared.Call.{Call}
 use Rattle.calls.specs.declared.Hold.{Hold}
@@ -28,7 +23,6 @@ use Rattle.calls.specs.Calls.{noSlot, named, onPair, isCall, holdsPair}
 use Rattle.calls.proofs.First.{placed, unplaced}
 use Rattle.calls.proofs.Calls.{call-named}
 use Rattle.effects.specs.declared.Table.{Table}
-use Rattle.outcome.specs.Refusals.{hostCauses}
 use Rattle.reload.specs.Reload.{phaseKept, isAt, callKept, holdKept, slotKept, allBelow}
 use Rattle.safety.specs.Tables.{slotAt, HasCall}
 use Rattle.safety.specs.Sound.{PhaseSound, in-N3, in-N6, in-N9, in-N10, by-host, by-timer, Sound}

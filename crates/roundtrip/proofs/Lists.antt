@@ -4,20 +4,17 @@
 --   ranges-whole, pairs-whole  those that start accepts
 -- Assumes nothing.
 use Prim.Native.Nat.{ℕ, zero, suc, _+_, _-_, _*_, _/_, _%_, _≤_, _<_}
-use mathlib.Core.Path.{_≡_, refl, sym, ap, _∙_}
+use mathlib.Core.Path.{_≡_, refl, sym, _∙_}
 use mathlib.Core.Logic.{_≢_}
-use mathlib.Core.Bool.{Bool, true, false}
-use mathlib.Core.List.{List, [], _∷_, _++_}
+use mathlib.Core.Bool.{true}
+use mathlib.Core.List.{List, [], _∷_}
 use native.Mathlib.Omega.{arith}
 use lib.Dec.{eqb, leb, ltb}
 use lib.ListN.{length, getD, List·getD-eq-default}
 use borrow.Author.Tests.{le-leb, lt-ltb, le-ltb, ltb-true, ltb-false, leb-true, eqb-true, eqb-false}
-use Rattle.channels.specs.Channels.{noRange, noEntry}
-use Rattle.channels.specs.declared.Entry.{Entry}
-use Rattle.channels.specs.declared.Range.{Range}
-use Rattle.channels.specs.declared.Channel.the-variants.{Pair}
+use Rattle.channels.specs.Channels.{noRange}
 use Rattle.channels.proofs.Cases.{by-test, both}
-use Rattle.provisioning.specs.Provisioning.{rangeAt, singleAt, entryAt, rangeOk, ascending, rangesOk, pairsOk, numbered}
+use Rattle.provisioning.specs.Provisioning.{rangeAt, singleAt, entryAt, rangeOk, rangesOk, pairsOk, numbered}
 use Rattle.provisioning.proofs.Ascending.{ascending-fits}
 use Rattle.provisioning.proofs.Accepted.{Limits, limits, ranges-lists}
 use Rattle.saved.specs.Form.{two, joined, rangeOctets, entryOctets}

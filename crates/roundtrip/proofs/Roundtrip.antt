@@ -4,7 +4,7 @@
 --   reached-provisioned   the pool of every reached table is start's
 --   saved-and-reloaded
 -- Assumes nothing.
-use Prim.Native.Nat.{ℕ, zero, suc, _≤_, _<_}
+use Prim.Native.Nat.{ℕ, suc, _≤_, _<_}
 use mathlib.Core.Path.{_≡_, refl, sym, ap, _∙_}
 use mathlib.Core.Logic.{_⊎_, inl, inr}
 use mathlib.Core.Bool.{Bool, true, false, cond, _&&_}
@@ -12,16 +12,14 @@ use mathlib.Core.List.{List, [], _∷_}
 use native.Mathlib.Omega.{arith}
 use lib.Dec.{eqb, leb}
 use lib.ListN.{length, getD}
-use borrow.Author.Tests.{eqb-true, eq-eqb, ne-eqb, le-leb, lt-ltb, le-ltb}
+use borrow.Author.Tests.{eqb-true, eq-eqb, le-leb, lt-ltb, le-ltb}
 use Rattle.roundtrip.proofs.Doubtful.{sound-doubtful, sound-doubts-kept}
 use Rattle.octets.specs.Octets.{equal}
 use Rattle.octets.proofs.Equal.{same-equal}
 use Rattle.traffic.specs.Traffic.{member}
 use Rattle.channels.proofs.Cases.{by-test, clash}
-use Rattle.channels.specs.declared.Pool.{Pool}
 use Rattle.provisioning.specs.Provisioning.{provision}
 use Rattle.calls.specs.declared.Phase.{Phase}
-use Rattle.calls.specs.declared.Call.{Call}
 use Rattle.calls.specs.declared.Hold.{Hold}
 use Rattle.calls.specs.declared.Hold.the-variants.{Empty, Live}
 use Rattle.calls.specs.declared.Slot.{Slot}
@@ -36,16 +34,17 @@ use Rattle.saved.specs.Form.{formOf}
 use Rattle.reload.specs.Reading.{rangeNumbers, pairNumbers, tableIn}
 use Rattle.reload.specs.Reload.{slotKept, allBelow, isForm, reloadIn, reloadOf, doubtsKept}
 use Rattle.reload.specs.Reached.{Beginning, start, reload, begun, Reached}
-use Rattle.safety.specs.Tables.{slotAt, HasCall}
+use Rattle.safety.specs.Tables.{slotAt}
 use Rattle.safety.specs.FixedAnswers.{labelOf, readingOf, roomOf}
-use Rattle.safety.specs.Sound.{PhaseSound, in-N3, in-N6, in-N9, in-N10, by-host, by-timer, Sound, CarriedOctets, ReferencesFit}
-use Rattle.safety.proofs.Refusals.{refusalOf}
-use Rattle.safety.proofs.FixedAnswers.{outcomeOf, accepts, number}
-use Rattle.safety.proofs.Sound.{left-accepted, left-refused, reached-sound}
+use Rattle.safety.specs.Sound.{PhaseSound, in-N3, in-N6, in-N9, in-N10, by-host, by-timer, Sound, ReferencesFit}
+use Rattle.safety.proofs.FixedAnswers.{number}
+use Rattle.safety.proofs.FixedStart.{start-accepts}
+use Rattle.safety.proofs.Slips.{pool-stays}
+use Rattle.safety.proofs.Sound.{reached-sound}
 use Rattle.safety.proofs.References.{form-fits, reached-fits}
-use Rattle.safety.proofs.Reloaded.{reload-in, reload-form, reload-sound}
+use Rattle.safety.proofs.Reloaded.{reload-in, reload-sound}
 use Rattle.roundtrip.specs.Roundtrip.{Provisioned, Savable, taken, SavedAndReloaded}
-use Rattle.roundtrip.proofs.Calls.{PhaseFits, CallFits, HoldFits, AllFit}
+use Rattle.roundtrip.proofs.Calls.{PhaseFits, HoldFits, AllFit}
 use Rattle.roundtrip.proofs.Tables.{lists-back, table-back}
 use Rattle.roundtrip.proofs.Kept.{sound-kept}
 
@@ -117,21 +116,15 @@ taken-each t v = taken-in slotCount t v (v .sound .has-slots)
 
 -- The pool of every reached table is start's.
 
-pool-kept : (t : Table) (e : Event) → happens t e .answer .table .pool ≡ t .pool
-pool-kept t e =
-    by-test (eqb (refusalOf t e) 0)
-    (λ y. ap (λ (u : Table). u .pool) (left-accepted t e y) ∙ (accepts t e (eqb-true (refusalOf t e) 0 y)) .stored .pool)
-    (λ n. ap (λ (u : Table). u .pool) (left-refused t e n))
-
 pools-kept : (t : Table) (es : List Event) → after t es .pool ≡ t .pool
 pools-kept t [] = refl
-pools-kept t (e ∷ es) = pools-kept (happens t e .answer .table) es ∙ pool-kept t e
+pools-kept t (e ∷ es) = pools-kept (happens t e .answer .table) es ∙ pool-stays t e
 
 start-provisioned : (ranges pairs : List ℕ) → startOf ranges pairs .refusal ≡ 0 → Provisioned (startOf ranges pairs .table)
 start-provisioned ranges pairs e = record {
   ranges = ranges;
   pairs = pairs;
-  accepted = by-test (provision ranges pairs .accepted) (λ y. y) (λ n. let z : _≡_ {A = ℕ} 9 0 = rw n at e in absurd (omega arith));
+  accepted = start-accepts ranges pairs e;
   pool = refl;
 }
 

@@ -1,19 +1,19 @@
 -- A whole table, saved and read back.
 --   lists-back, table-back     the lists, and the table, that a form is read as
 -- Assumes nothing.
-use Prim.Native.Nat.{ℕ, _*_, _/_, _%_, _≤_, _<_}
-use mathlib.Core.Path.{_≡_, refl, sym, ap, _∙_}
+use Prim.Native.Nat.{ℕ, _≤_, _<_}
+use mathlib.Core.Path.{_≡_, sym, ap, _∙_}
 use mathlib.Core.Bool.{true}
 use mathlib.Core.List.{List, _++_}
 use native.Mathlib.Omega.{arith}
 use lib.ListN.{length}
 use Rattle.channels.specs.Doubts.{doubtsOf}
-use Rattle.provisioning.specs.Provisioning.{rangeAt, entryAt, numbered, provision}
+use Rattle.provisioning.specs.Provisioning.{provision}
 use Rattle.provisioning.proofs.Accepted.{accepted-lists, ranges-lists}
 use Rattle.channels.specs.declared.Pool.{Pool}
 use Rattle.calls.specs.declared.Slots.{Slots}
 use Rattle.effects.specs.declared.Table.{Table}
-use Rattle.saved.specs.Form.{two, eight, field, joined, rangeOctets, entryOctets, callFields, formOf}
+use Rattle.saved.specs.Form.{two, eight, field, joined, callFields, formOf}
 use Rattle.reload.specs.Reading.{eightAt, rest, rangeNumbers, pairNumbers, listIn, slotsIn, tableIn, entriesIn}
 use Rattle.roundtrip.specs.Roundtrip.{Provisioned}
 use Rattle.roundtrip.proofs.Numbers.{eight-back}

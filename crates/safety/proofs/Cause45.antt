@@ -2,20 +2,17 @@
 --   causeOf, is45          the cause number of a reply, and if it is 45
 --   says-45                octets that say 45 are of a reply that is 45
 --   admission-not-45, judged-not-45, no-call-not-45, global-not-45, hold-not-45       no reply to a message is, but the one for no free pair
---   member-passes          what all of a list passes, a member passes
 --   expire-not-45, fired-not-45, connected-not-45, cleared-not-45     and no other event's
 -- Assumes nothing.
 use Prim.Native.Nat.{ℕ, _+_, _%_}
 use mathlib.Core.Path.{_≡_, refl}
 use mathlib.Core.Bool.{Bool, true, false, not, _&&_, _||_, cond}
-use mathlib.Core.List.{List, [], _∷_}
+use mathlib.Core.List.{List}
 use native.Mathlib.Omega.{arith}
 use lib.Dec.{eqb, ltb}
-use borrow.Author.Tests.{eqb-true, eq-eqb, not-true}
+use borrow.Author.Tests.{eq-eqb, not-true}
 use Rattle.traffic.specs.Traffic.{member}
-use Rattle.channels.specs.Some.{someOf}
 use Rattle.channels.specs.Channels.{permanent, knownVpci}
-use Rattle.channels.proofs.Cases.{by-test, clash}
 use Rattle.calls.specs.declared.Clearing.{Clearing}
 use Rattle.calls.specs.declared.Phase.{Phase}
 use Rattle.calls.specs.declared.Phase.the-variants.{N3, N6, N9, N10, N12}
@@ -52,6 +49,7 @@ use Rattle.effects.specs.declared.Table.{Table}
 use Rattle.effects.specs.Restart.{pairRestart, restartEffect}
 use Rattle.effects.specs.Effects.{onHold, globalEffect, fireHold, fired, noRoom}
 use Rattle.outcome.specs.Refusals.{hostCauses}
+use Rattle.outcome.proofs.Causes.{member-passes}
 use Rattle.commands.specs.Commands.{connected, cleared}
 use Rattle.safety.specs.Tables.{slotAt}
 use Rattle.safety.specs.Sound.{PhaseSound, in-N3, in-N6, in-N9, in-N10, by-host, by-timer, Sound}
@@ -199,13 +197,6 @@ hold-not-45 t m h reading i Empty = refl
 hold-not-45 t m h reading i (Live c) = judged-not-45 (classify (h .kind) (c .phase)) m h (c .phase) reading
 
 -- A cause that the host may use is none of these.
-pub member-passes : (q : ℕ → Bool) (n : ℕ) (xs : List ℕ) → someOf (λ x. not (q x)) xs ≡ false → member n xs ≡ true → q n ≡ true
-member-passes q n [] all e = clash e refl
-member-passes q n (x ∷ xs) all e =
-    by-test (q x)
-    (λ y. by-test (eqb n x) (λ same. rw (eqb-true n x same) y) (λ other. member-passes q n xs (rw y at all) (rw other at e)))
-    (λ z. clash (rw z) all)
-
 host-not-45 : (n : ℕ) → member n hostCauses ≡ true → eqb (n % 128) 45 ≡ false
 host-not-45 n host = not-true (eqb (n % 128) 45) (member-passes (λ x. not (eqb (x % 128) 45)) n hostCauses refl host)
 

@@ -2,16 +2,15 @@
 --   outcome-doubted         of every event: they stay, some end, or the pair of a call that is gone begins to be in doubt
 --   doubts-sound            afterwards they are as they must be
 -- Assumes nothing.
-use Prim.Native.Nat.{ℕ, _≤_}
+use Prim.Native.Nat.{ℕ}
 use mathlib.Core.Path.{_≡_, refl, sym, ap, _∙_}
-use mathlib.Core.Logic.{_≢_, _⊎_, ⊎-elim}
-use mathlib.Core.Bool.{Bool, true, false, cond, not, _&&_, _||_}
+use mathlib.Core.Logic.{_≢_}
+use mathlib.Core.Bool.{Bool, true, false, not, _&&_, _||_}
 use mathlib.Core.List.{List}
-use native.Mathlib.Omega.{arith}
 use lib.Dec.{eqb, ltb}
-use lib.ListN.{length, getD, set}
+use lib.ListN.{length, getD}
 use lib.Seq.{getD-set-same, getD-set-other}
-use borrow.Author.Tests.{eqb-true, eqb-false, not-true}
+use borrow.Author.Tests.{eqb-true, not-true}
 use Rattle.channels.specs.Channels.{isEntry, among, permitted, permanent, knownVpci}
 use Rattle.channels.specs.Doubts.{doubtRoom, doubtsOf, pairEntry, sunk, ended, isFull, doubtsAfter, tidy}
 use Rattle.channels.specs.declared.Channel.{Channel}
@@ -49,9 +48,8 @@ use Rattle.judging.specs.declared.Fate.the-variants as fate
 use Rattle.judging.specs.Judge.{expire, lastT308}
 use Rattle.effects.specs.declared.Effect.{Effect}
 use Rattle.effects.specs.declared.Table.{Table}
-use Rattle.effects.specs.Effect.{fated}
 use Rattle.effects.specs.Restart.{pairRestart, restartEffect}
-use Rattle.effects.specs.Effects.{freePair, onPair, admitted, setupEffect, onNoCall, onHold, addressed, globalEffect, noRoom, doubtOf, fireHold, fired, tickEffect}
+use Rattle.effects.specs.Effects.{freePair, onPair, admitted, setupEffect, onNoCall, onHold, addressed, globalEffect, noRoom, fireHold, fired, tickEffect}
 use Rattle.outcome.specs.Refusals.{holdAt}
 use Rattle.commands.specs.Commands.{connected, cleared, offeredOn}
 use Rattle.control.specs.Events.{heardBy, offered}
@@ -61,7 +59,7 @@ use Rattle.safety.specs.Sound.{Sound}
 use Rattle.safety.proofs.Cases.{by-cond, either}
 use Rattle.safety.proofs.Tables.{not-live, live-within}
 use Rattle.safety.proofs.FixedAnswers.{outcomeOf}
-use Rattle.safety.proofs.Changes.{SameCall, Comes, old, new, Change, Doubted, keeps, ends, ends-all, begins}
+use Rattle.safety.proofs.Changes.{Comes, old, new, Change, Doubted, keeps, ends, ends-all, begins}
 
 -- a second T308 that expires with room for a doubt ends the call
 last-gone : (full : Bool) (phase : Phase) (reading : ℕ) → lastT308 phase ≡ true → full ≡ false → expire full phase reading .fate ≡ fate.Gone

@@ -8,18 +8,17 @@
 use Prim.Native.Nat.{ℕ, zero, suc, _+_, _≤_, _<_}
 use mathlib.Core.Path.{_≡_, refl, sym, ap, _∙_}
 use mathlib.Core.Logic.{_≢_}
-use mathlib.Core.Bool.{Bool, true, false, cond, not, _&&_, _||_}
+use mathlib.Core.Bool.{Bool, true, false, cond, not, _&&_}
 use mathlib.Core.List.{List, [], _∷_}
 use native.Mathlib.Omega.{arith}
 use lib.Dec.{eqb, leb}
 use lib.ListN.{length}
-use borrow.Author.Tests.{eqb-true, eqb-false, leb-true, not-true, lt-ltb, not-false}
+use borrow.Author.Tests.{eqb-true, eqb-false, leb-true, not-true, not-false}
 use Rattle.channels.specs.declared.Entry.{Entry}
 use Rattle.channels.specs.declared.Channel.the-variants.{None, Pair}
 use Rattle.channels.specs.declared.Channel.{Channel}
 use Rattle.channels.specs.Doubts.{doubtRoom, tidy}
 use Rattle.channels.specs.Some.{someOf}
-use Rattle.octets.specs.Octets.{equal}
 use Rattle.octets.proofs.Equal.{equal-same}
 use Rattle.traffic.specs.Traffic.{member}
 use Rattle.channels.specs.Channels.{permitted, inRanges, isPair, isEntry, among}
@@ -41,7 +40,7 @@ use Rattle.saved.specs.Form.{formOf}
 use Rattle.reload.specs.Reading.{rangeNumbers, pairNumbers, rest, behindSlot, slotsIn, tableIn, doubtNumbers}
 use Rattle.reload.specs.Reload.{phaseKept, isAt, callKept, slotKept, allBelow, isForm, reloadIn, reloadOf, channelLost, isLost, doubtsKept}
 use Rattle.safety.specs.Tables.{HasSlots, HasCall}
-use Rattle.safety.specs.Sound.{PhaseSound, in-N3, in-N6, in-N9, in-N10, by-host, by-timer, CallSound, Sound}
+use Rattle.safety.specs.Sound.{PhaseSound, in-N3, in-N6, in-N9, in-N10, by-host, by-timer, Sound}
 use Rattle.safety.proofs.Cases.{neither, one-place}
 use Rattle.safety.proofs.Tables.{live-within, held-some}
 

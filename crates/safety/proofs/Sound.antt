@@ -23,7 +23,6 @@ use Rattle.provisioning.specs.Provisioning.{provision}
 use Rattle.provisioning.proofs.Accepted.{provision-pair}
 use Rattle.calls.specs.declared.Call.{Call}
 use Rattle.calls.specs.declared.Slot.{Slot}
-use Rattle.calls.specs.declared.Found.the-variants.{At}
 use Rattle.calls.specs.Calls.{noSlot, isCall, heldOf}
 use Rattle.calls.proofs.Calls.{held-holds}
 use Rattle.effects.specs.declared.Table.{Table}

@@ -1,6 +1,4 @@
 -- Laws of the loops that write one element behind the other, and of contents that are written before their field.
---   nothing                                      a writer that puts nothing
---   Begun, begun-none, begun-more, begun-all     what is written so far, and the rest
 --   joined-at, joined-end                        the rest of a list of elements
 --   fields-at, fields-end                        the rest of the slots
 --   kept                                         what was written at the front of a room is there
@@ -9,41 +7,15 @@
 use Prim.Native.Nat.{ℕ, _+_, _≤_, _<_}
 use native.Mathlib.Omega.{arith}
 use native.Mathlib.Numerals.{add-one}
-use mathlib.Core.Path.{_≡_, refl, _∙_}
-use mathlib.Core.List.{List, [], _++_, append-assoc, append-nil}
+use mathlib.Core.Path.{_≡_}
+use mathlib.Core.List.{List, [], _++_}
 use lib.ListN.{length, take, drop, getD, drop-of-length-le}
 use lib.Seq.{drop-cons, take-append-seam}
 use Rattle.calls.specs.Calls.{noSlot}
 use Rattle.calls.specs.declared.Slot.{Slot}
 use Rattle.octets.specs.Octets.{Wrote}
-use Rattle.octets.proofs.Stores.{chain, chained}
+use Rattle.octets.proofs.Stores.{chained}
 use Rattle.saved.specs.Form.{field, joined, holdField, callFields}
-
-pub nothing : (old : List ℕ) (at : ℕ) → Wrote old at [] old at
-nothing old at = record { run = refl; past = omega arith }
-
--- of `whole`, all but `rest` was written at place `at` of `old`, which left `room`; the rest goes to `next`
-pub record Begun (whole old : List ℕ) (at : ℕ) (room : List ℕ) (next : ℕ) (rest : List ℕ) : Type 0 where
-  pub written : List ℕ
-  pub left : whole ≡ written ++ rest
-  pub wrote : Wrote old at written room next
-
-pub begun-none : (whole old : List ℕ) (at : ℕ) → Begun whole old at old at whole
-begun-none whole old at = record { written = []; left = refl; wrote = nothing old at }
-
-pub begun-more : {whole old room new rest piece : List ℕ} {at next end : ℕ} (left : List ℕ)
-    → Begun whole old at room next rest → rest ≡ piece ++ left → Wrote room next piece new end → Begun whole old at new end left
-begun-more {piece = piece} left b e w =
-    record {
-      written = b .written ++ piece;
-      left = b .left ∙ rw (e, append-assoc);
-      wrote = chain (b .wrote) w;
-    }
-
-pub begun-all : {whole old room rest : List ℕ} {at next : ℕ} → Begun whole old at room next rest → rest ≡ [] → Wrote old at whole room next
-begun-all {whole = whole} b e =
-    let all : whole ≡ b .written = b .left ∙ rw (e, append-nil) in
-    rw all (b .wrote)
 
 module _ {A : Type 0} (f : A → List ℕ) (xs : List A) (i : ℕ) where
   pub joined-at : (d : A) → i < length xs → joined f (drop i xs) ≡ f (getD xs i d) ++ joined f (drop (i + 1) xs)

@@ -6,18 +6,13 @@
 -- Assumes nothing.
 use Prim.Native.Nat.{ℕ, _+_, _*_, _-_, _≤_, _<_}
 use native.Mathlib.Omega.{arith}
-use mathlib.Core.Path.{_≡_, refl, sym, _∙_}
-use mathlib.Core.Bool.{Bool, true, false}
+use mathlib.Core.Path.{_≡_, sym}
 use mathlib.Core.List.{List, [], _∷_}
 use lib.Dec.{leb}
 use borrow.Author.Tests.{leb-true, leb-false, lt-leb, le-leb}
-use Rattle.script.specs.declared.decimal.Number.{Number}
+use Rattle.octets.proofs.Cases.{by-test}
 use Rattle.script.specs.declared.decimal.Number.the-variants.{Bad, Is}
-use Rattle.script.specs.Decimal.{isDigit, allDigits, valueFrom, upTo, withDigit, numberFrom}
-
-by-test : {P : Type 0} (t : Bool) → (t ≡ true → P) → (t ≡ false → P) → P
-by-test true f g = f refl
-by-test false f g = g refl
+use Rattle.script.specs.Decimal.{isDigit, allDigits, valueFrom, withDigit, numberFrom}
 
 bad-is : {P : Type 0} {n : ℕ} → Bad ≡ Is n → P
 bad-is e = let z : _≡_ {A = ℕ} 0 1 = cc in absurd (omega arith)

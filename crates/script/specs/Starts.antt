@@ -6,10 +6,9 @@
 -- Assumes nothing.
 use Prim.Native.Nat.{ℕ, zero, suc, _+_}
 use mathlib.Core.Bool.{Bool, true, false, cond, _&&_}
-use mathlib.Core.List.{List, [], _∷_}
+use mathlib.Core.List.{List}
 use lib.Dec.{ltb, leb}
 use lib.ListN.{length, set, replicate}
-use Rattle.script.specs.declared.start.List as numbers
 use Rattle.script.specs.declared.start.Listed.{Listed}
 use Rattle.script.specs.declared.start.Lists.{Lists}
 use Rattle.script.specs.Words.{fieldAt, onField}

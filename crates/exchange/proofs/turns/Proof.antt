@@ -1,7 +1,6 @@
 -- `exchange::turns` is safe and ends. The measure is the number of turns that are left; the buffers keep their lengths, and the desk is tidy.
 -- Assumes nothing.
 use borrow.Author.Needs.{needs}
-use Prim.Native.Nat.{_≤_}
 use mathlib.Core.Path.{_≡_}
 use lib.ListN.{length}
 use Rattle.exchange.specs.Desk.{Tidy}

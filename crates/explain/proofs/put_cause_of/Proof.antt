@@ -1,7 +1,7 @@
 -- `explain::put_cause_of` meets its contract: each text by what was read. Assumes nothing.
 use borrow.Author.Needs.{needs}
 use native.Mathlib.Omega.{arith}
-use Rattle.ascii.proofs.Pieces.{wrote-none}
+use Rattle.octets.proofs.Stores.{wrote-none}
 use Rattle.explain.proofs.put_cause_of.Statement.{statement}
 use Rattle.explain.proofs.put_cause_of.Tie as tie
 

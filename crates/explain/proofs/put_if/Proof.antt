@@ -1,7 +1,7 @@
 -- `explain::put_if` meets its contract: each text by the tests that led to it. Assumes nothing.
 use borrow.Author.Needs.{needs}
 use native.Mathlib.Omega.{arith}
-use Rattle.ascii.proofs.Pieces.{wrote-none}
+use Rattle.octets.proofs.Stores.{wrote-none}
 use Rattle.explain.proofs.put_if.Statement.{statement}
 use Rattle.explain.proofs.put_if.Tie as tie
 

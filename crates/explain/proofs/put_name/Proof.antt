@@ -4,7 +4,7 @@ use native.Mathlib.Omega.{arith}
 use mathlib.Core.Path.{_≡_, refl}
 use Prim.Native.Nat.{_+_, _-_, _≤_, _<_}
 use lib.ListN.{length, take, drop, length-take, length-drop}
-use Rattle.ascii.proofs.Pieces.{wrote-none}
+use Rattle.octets.proofs.Stores.{wrote-none}
 use Rattle.explain.proofs.Tables.{Unread, all-unread, found, passed, none-left}
 use Rattle.explain.proofs.put_name.Statement.{statement}
 use Rattle.explain.proofs.put_name.Tie as tie

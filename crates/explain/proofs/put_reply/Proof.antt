@@ -3,7 +3,7 @@ use borrow.Author.Needs.{needs}
 use native.Mathlib.Omega.{arith}
 use borrow.Author.Tests.{eq-eqb, ne-eqb}
 use Rattle.octets.proofs.Stores.{chain}
-use Rattle.ascii.proofs.Pieces.{wrote-none}
+use Rattle.octets.proofs.Stores.{wrote-none}
 use Rattle.explain.proofs.put_reply.Statement.{statement}
 use Rattle.explain.proofs.put_reply.Tie as tie
 

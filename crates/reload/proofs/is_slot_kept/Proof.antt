@@ -1,6 +1,5 @@
 -- `reload::is_slot_kept` meets its contract: by what the slot holds.
 -- Assumes nothing.
-use mathlib.Core.Path.{sym, _∙_}
 use borrow.Author.Needs.{needs}
 use Rattle.reload.proofs.is_slot_kept.Statement.{statement}
 use Rattle.reload.proofs.is_slot_kept.Tie as tie

@@ -6,8 +6,8 @@ use mathlib.Core.List.{[], _∷_}
 use Prim.Native.Nat.{_+_}
 use mathlib.Core.Path.{_≡_}
 use lib.ListN.{length}
-use Rattle.octets.proofs.Stores.{chain}
-use Rattle.replies.proofs.Whole.{body-size, no-more, whole}
+use Rattle.octets.proofs.Stores.{chain, wrote-none}
+use Rattle.replies.proofs.Whole.{body-size, whole}
 use Rattle.replies.specs.Message.{body}
 use Rattle.replies.specs.Reply.{cause}
 use Rattle.replies.proofs.write_cause.Statement.{statement}
@@ -36,7 +36,7 @@ returns c = let e = c .before .before in
     let es = cause (a .why) ∷ [] in
     let size : length (body es) ≡ 6 + d .diagnostic-size .result = rw (body-size (cause (a .why)) []) (omega arith) in
     whole (a .flag) (a .reference) (a .kind) (6 + d .diagnostic-size .result) es size (omega arith)
-    (chain (h .put-header .ensures) (chain (e .put-cause .ensures) (no-more _ _)))
+    (chain (h .put-header .ensures) (chain (e .put-cause .ensures) (wrote-none _ _)))
 
 pub write-cause-spec : {M : Type 1} → statement M
 write-cause-spec =

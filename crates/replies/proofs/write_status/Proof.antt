@@ -6,8 +6,8 @@ use mathlib.Core.List.{[], _∷_}
 use Prim.Native.Nat.{_+_}
 use mathlib.Core.Path.{_≡_}
 use lib.ListN.{length}
-use Rattle.octets.proofs.Stores.{chain}
-use Rattle.replies.proofs.Whole.{body-size, no-more, whole}
+use Rattle.octets.proofs.Stores.{chain, wrote-none}
+use Rattle.replies.proofs.Whole.{body-size, whole}
 use Rattle.replies.specs.Message.{body}
 use Rattle.replies.specs.Reply.{callState, cause}
 use Rattle.replies.proofs.write_status.Statement.{statement}
@@ -42,7 +42,7 @@ returns c = let e = c .before .before in
     rw (body-size (callState (a .state)) (cause (a .why) ∷ []), body-size (cause (a .why)) []) (omega arith)
     in
     whole (a .flag) (a .reference) 0x7D (11 + d .diagnostic-size .result) es size (omega arith)
-    (chain (h .put-header .ensures) (chain (s .put-call-state .ensures) (chain (e .put-cause .ensures) (no-more _ _))))
+    (chain (h .put-header .ensures) (chain (s .put-call-state .ensures) (chain (e .put-cause .ensures) (wrote-none _ _))))
 
 pub write-status-spec : {M : Type 1} → statement M
 write-status-spec =

@@ -5,15 +5,16 @@ use native.Mathlib.Omega.{arith}
 use Prim.Native.Nat.{_+_, _*_, _-_, _≤_}
 use mathlib.Core.Path.{_≡_}
 use lib.ListN.{length, drop, length-map}
+use Rattle.octets.proofs.Stores.{Begun, begun-none, begun-more, begun-all}
 use Rattle.saved.specs.Form.{callFields}
-use Rattle.saved.proofs.Joined.{Begun, begun-none, begun-more, begun-all, fields-at, fields-end}
+use Rattle.saved.proofs.Joined.{fields-at, fields-end}
 use Rattle.saved.proofs.put_calls.Statement.{statement}
 use Rattle.saved.proofs.put_calls.Tie as tie
 
 abbrev Inv-loop : tie.InvT-loop
 Inv-loop room₀ at slots next₀ i₀ room next i =
     (i ≤ 32) × (next ≤ at + 22 * i) × (length room ≡ length room₀) × (at + 704 ≤ length room₀) × (length (slots .all) ≡ 32)
-    × Begun (callFields 0 (slots .all)) room₀ at room next (callFields i (drop i (slots .all)))
+    × Begun (callFields 0 (slots .all)) (callFields i (drop i (slots .all))) room₀ at room next
 
 abbrev μ-loop : tie.MeasureT-loop
 μ-loop room₀ at slots next₀ i₀ room next i = 32 - i
@@ -48,7 +49,7 @@ loop-again c =
       search needs,
       search needs,
       search needs,
-      begun-more _ (l .loop .inv .5) (fields-at ss (l .loop .i) (omega arith)) (c .before .before .put-hold .ensures .0),
+      begun-more (l .loop .inv .5) (fields-at ss (l .loop .i) (omega arith)) (c .before .before .put-hold .ensures .0),
     )
 
 same-length : tie.Need-same-length Inv-loop μ-loop

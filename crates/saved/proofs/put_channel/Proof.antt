@@ -1,8 +1,7 @@
 -- `saved::put_channel` meets its contract: two numbers, or nothing. Assumes nothing.
 use borrow.Author.Needs.{needs}
 use native.Mathlib.Omega.{arith}
-use Rattle.octets.proofs.Stores.{chain}
-use Rattle.saved.proofs.Joined.{nothing}
+use Rattle.octets.proofs.Stores.{chain, wrote-none}
 use Rattle.saved.proofs.put_channel.Statement.{statement}
 use Rattle.saved.proofs.put_channel.Tie as tie
 
@@ -19,7 +18,7 @@ put-two-requires-2 : tie.Need-put-two-requires-2
 put-two-requires-2 c κs = search needs
 
 returns : tie.Need-returns
-returns c = (rw (c .enum-told .given .1) (nothing _ _), omega arith)
+returns c = (rw (c .enum-told .given .1) (wrote-none _ _), omega arith)
 
 same-length : tie.Need-same-length
 same-length c = search needs

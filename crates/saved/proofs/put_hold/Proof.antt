@@ -2,7 +2,8 @@
 use borrow.Author.Needs.{needs}
 use native.Mathlib.Omega.{arith}
 use lib.ListN.{length-take}
-use Rattle.saved.proofs.Joined.{nothing, filed}
+use Rattle.octets.proofs.Stores.{wrote-none}
+use Rattle.saved.proofs.Joined.{filed}
 use Rattle.saved.proofs.put_hold.Statement.{statement}
 use Rattle.saved.proofs.put_hold.Tie as tie
 
@@ -28,7 +29,7 @@ put-field-requires : tie.Need-put-field-requires
 put-field-requires c κs = simp length-take (omega arith)
 
 returns : tie.Need-returns
-returns c = (rw (c .enum-told .given .1) (nothing _ _), omega arith)
+returns c = (rw (c .enum-told .given .1) (wrote-none _ _), omega arith)
 
 same-length : tie.Need-same-length
 same-length c = search needs

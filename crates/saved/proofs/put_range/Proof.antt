@@ -2,13 +2,12 @@
 use borrow.Author.Needs.{needs}
 use native.Mathlib.Omega.{arith}
 use borrow.Author.Tests.{le-leb, lt-leb}
-use Rattle.octets.proofs.Stores.{chain}
-use Rattle.saved.proofs.Joined.{nothing}
+use Rattle.octets.proofs.Stores.{chain, wrote-none}
 use Rattle.saved.proofs.put_range.Statement.{statement}
 use Rattle.saved.proofs.put_range.Tie as tie
 
 returns : tie.Need-returns
-returns c = (rw (lt-leb _ _ (c .if1 .taken)) (nothing _ _), omega arith)
+returns c = (rw (lt-leb _ _ (c .if1 .taken)) (wrote-none _ _), omega arith)
 
 put-two-requires : tie.Need-put-two-requires
 put-two-requires c κs = search needs

@@ -6,15 +6,16 @@ use Prim.Native.Nat.{_+_, _*_, _-_, _≤_}
 use mathlib.Core.Path.{_≡_}
 use lib.ListN.{length, drop, length-map}
 use Rattle.channels.proofs.Walk.{zeroRange}
+use Rattle.octets.proofs.Stores.{Begun, begun-none, begun-more, begun-all}
 use Rattle.saved.specs.Form.{joined, rangeOctets}
-use Rattle.saved.proofs.Joined.{Begun, begun-none, begun-more, begun-all, joined-at, joined-end}
+use Rattle.saved.proofs.Joined.{joined-at, joined-end}
 use Rattle.saved.proofs.put_ranges.Statement.{statement}
 use Rattle.saved.proofs.put_ranges.Tie as tie
 
 abbrev Inv-loop : tie.InvT-loop
 Inv-loop room₀ at pool next₀ i₀ room next i =
     (i ≤ 4) × (next ≤ at + 6 * i) × (length room ≡ length room₀) × (at + 24 ≤ length room₀) × (length (pool .ranges) ≡ 4)
-    × Begun (joined rangeOctets (pool .ranges)) room₀ at room next (joined rangeOctets (drop i (pool .ranges)))
+    × Begun (joined rangeOctets (pool .ranges)) (joined rangeOctets (drop i (pool .ranges))) room₀ at room next
 
 abbrev μ-loop : tie.MeasureT-loop
 μ-loop room₀ at pool next₀ i₀ room next i = 4 - i
@@ -46,7 +47,7 @@ loop-again c =
       search needs,
       search needs,
       search needs,
-      begun-more _ (l .loop .inv .5) (joined-at rangeOctets xs (l .loop .i) zeroRange (omega arith)) (c .before .before .put-range .ensures .0),
+      begun-more (l .loop .inv .5) (joined-at rangeOctets xs (l .loop .i) zeroRange (omega arith)) (c .before .before .put-range .ensures .0),
     )
 
 same-length : tie.Need-same-length Inv-loop μ-loop

@@ -1,7 +1,7 @@
 -- `script::clear` meets its contract: each answer by what was read. Assumes nothing.
 use borrow.Author.Needs.{needs}
 use borrow.Author.Tests.{lt-ltb, le-ltb}
-use mathlib.Core.Path.{refl, sym, _∙_}
+use mathlib.Core.Path.{sym, _∙_}
 use Rattle.script.proofs.clear.Statement.{statement}
 use Rattle.script.proofs.clear.Tie as tie
 

@@ -1,6 +1,6 @@
 -- `script::last_octets` meets its contract: each answer by the test that led to it. Assumes nothing.
 use borrow.Author.Needs.{needs}
-use borrow.Author.Tests.{lt-ltb, le-ltb, eq-eqb, ne-eqb}
+use borrow.Author.Tests.{lt-ltb, le-ltb}
 use mathlib.Core.Path.{refl}
 use Rattle.script.proofs.last_octets.Statement.{statement}
 use Rattle.script.proofs.last_octets.Tie as tie

@@ -1,6 +1,5 @@
 -- `script::message` meets its contract: each answer by the case that led to it. Assumes nothing.
 use borrow.Author.Needs.{needs}
-use mathlib.Core.Path.{refl, sym, _∙_}
 use Rattle.script.proofs.message.Statement.{statement}
 use Rattle.script.proofs.message.Tie as tie
 

@@ -1,6 +1,5 @@
 -- `script::offer` meets its contract: each answer by the case that led to it. Assumes nothing.
 use borrow.Author.Needs.{needs}
-use mathlib.Core.Path.{refl, sym, _∙_}
 use Rattle.script.proofs.offer.Statement.{statement}
 use Rattle.script.proofs.offer.Tie as tie
 

@@ -1,6 +1,6 @@
 -- `script::read_event` meets its contract: each answer by the event that the word names. Assumes nothing.
 use borrow.Author.Needs.{needs}
-use mathlib.Core.Path.{refl, sym, _∙_}
+use mathlib.Core.Path.{refl, _∙_}
 use Rattle.script.proofs.read_event.Statement.{statement}
 use Rattle.script.proofs.read_event.Tie as tie
 

@@ -1,6 +1,6 @@
 -- `script::read_timed` meets its contract: each answer by what was read. Assumes nothing.
 use borrow.Author.Needs.{needs}
-use mathlib.Core.Path.{_≡_, refl, sym, _∙_}
+use mathlib.Core.Path.{refl, sym, _∙_}
 use Rattle.script.proofs.read_timed.Statement.{statement}
 use Rattle.script.proofs.read_timed.Tie as tie
 

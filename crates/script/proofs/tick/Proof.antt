@@ -1,5 +1,4 @@
 -- `script::tick` meets its contract: each answer by the test that led to it. Assumes nothing.
-use borrow.Author.Needs.{needs}
 use borrow.Author.Tests.{lt-ltb, le-ltb}
 use Rattle.script.proofs.tick.Statement.{statement}
 use Rattle.script.proofs.tick.Tie as tie

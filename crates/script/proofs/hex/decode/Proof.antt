@@ -3,9 +3,9 @@
 use borrow.Author.Needs.{needs}
 use Prim.Native.Nat.{_*_, _≤_, _-_}
 use native.Mathlib.Omega.{arith}
-use mathlib.Core.Path.{_≡_, sym, _∙_}
-use lib.ListN.{length, length-set}
-use Rattle.script.proofs.Decoding.{pairAt, Read, read-none, read-more, read-bad, read-all}
+use mathlib.Core.Path.{_≡_}
+use lib.ListN.{length}
+use Rattle.script.proofs.Decoding.{Read, read-none, read-more, read-bad, read-all}
 use Rattle.script.proofs.hex.decode.Statement.{statement}
 use Rattle.script.proofs.hex.decode.Tie as tie
 

@@ -2,7 +2,7 @@
 use borrow.Author.Needs.{needs}
 use native.Mathlib.Omega.{arith}
 use borrow.Author.Tests.{lt-ltb, le-ltb, eq-eqb, ne-eqb}
-use mathlib.Core.Path.{_≡_, refl}
+use mathlib.Core.Path.{refl}
 use Rattle.script.proofs.Decoding.{fits-more}
 use Rattle.script.proofs.hex.read_octets.Statement.{statement}
 use Rattle.script.proofs.hex.read_octets.Tie as tie

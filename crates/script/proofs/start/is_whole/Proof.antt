@@ -1,5 +1,4 @@
 -- `script::start::is_whole` meets its contract: each answer by the tests that led to it. Assumes nothing.
-use borrow.Author.Needs.{needs}
 use borrow.Author.Tests.{not-true, not-false}
 use Rattle.script.proofs.start.is_whole.Statement.{statement}
 use Rattle.script.proofs.start.is_whole.Tie as tie

@@ -1,6 +1,5 @@
 -- `script::start::read_lists` meets its contract: the two lists, and if the line ends behind them. Assumes nothing.
 use borrow.Author.Needs.{needs}
-use mathlib.Core.Path.{_≡_, refl, sym, _∙_}
 use Rattle.script.proofs.start.read_lists.Statement.{statement}
 use Rattle.script.proofs.start.read_lists.Tie as tie
 

@@ -3,7 +3,7 @@
 use borrow.Author.Needs.{needs}
 use native.Mathlib.Omega.{arith}
 use Prim.Native.Nat.{_-_, _≤_}
-use mathlib.Core.Path.{_≡_, refl, sym, _∙_}
+use mathlib.Core.Path.{_≡_, sym, _∙_}
 use lib.ListN.{length, replicate}
 use Rattle.script.specs.Starts.{numbersFrom}
 use Rattle.script.proofs.Numbers.{numbers-bad, numbers-over, numbers-more, numbers-all}
