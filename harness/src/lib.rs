@@ -1,6 +1,7 @@
 //! An independent decoder and call controller, written from the paper alone,
 //! with scripts of events and tables of cases to try a controller on.
 
+pub mod books;
 pub mod cases;
 pub mod compose;
 pub mod controller;
