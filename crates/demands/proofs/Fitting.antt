@@ -46,14 +46,15 @@ use Rattle.readback.proofs.PairRead.{ReadFits, connection-fits}
 use Rattle.setup.specs.declared.Admission.{Admission}
 use Rattle.setup.specs.declared.Admission.the-variants.{Admitted, Refused}
 use Rattle.setup.specs.Setup.{absent, broken, foundIn, chosen, someNamed, isMultipoint, allowedIn, admission}
+use Rattle.verdicts.specs.declared.Verdict.{Verdict}
+use Rattle.verdicts.specs.Verdict.{because, silent, ended}
+use Rattle.verdicts.specs.Expiry.{diagnosed, released, expire, waiting}
 use Rattle.judging.specs.declared.Class.{Class}
 use Rattle.judging.specs.declared.Class.the-variants as class
 use Rattle.judging.specs.declared.Kind.{Kind}
 use Rattle.judging.specs.declared.Kind.the-variants as kind
-use Rattle.judging.specs.declared.Verdict.{Verdict}
-use Rattle.judging.specs.Verdict.{because, silent, ended}
 use Rattle.judging.specs.Class.{classify}
-use Rattle.judging.specs.Judge.{releaseComplete, releaseReply, statusVerdict, statusOf, contentsVerdict, judgedAs, statusReply, noCallReply, globalReply, diagnosed, released, expire, waiting}
+use Rattle.judging.specs.Judge.{releaseComplete, releaseReply, statusVerdict, statusOf, contentsVerdict, judgedAs, statusReply, noCallReply, globalReply}
 use Rattle.effects.specs.declared.Effect.{Effect}
 use Rattle.effects.specs.declared.Table.{Table}
 use Rattle.effects.specs.Restart.{pairRestart, restartEffect}

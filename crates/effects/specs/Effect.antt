@@ -25,9 +25,9 @@ use Rattle.calls.specs.declared.Gone.{Gone}
 use Rattle.calls.specs.Calls.{moved, noSlot}
 use Rattle.replies.specs.declared.Reply.{Reply}
 use Rattle.replies.specs.declared.Reply.the-variants as reply
-use Rattle.judging.specs.declared.Fate.{Fate}
-use Rattle.judging.specs.declared.Fate.the-variants as fate
-use Rattle.judging.specs.declared.Verdict.{Verdict}
+use Rattle.verdicts.specs.declared.Fate.{Fate}
+use Rattle.verdicts.specs.declared.Fate.the-variants as fate
+use Rattle.verdicts.specs.declared.Verdict.{Verdict}
 use Rattle.effects.specs.declared.Effect.{Effect}
 
 -- "The table has the 32 slots of calls"

@@ -32,8 +32,9 @@ use Rattle.replies.specs.declared.Reply.the-variants as reply
 use Rattle.setup.specs.declared.Admission.{Admission}
 use Rattle.setup.specs.declared.Admission.the-variants.{Admitted, Refused}
 use Rattle.setup.specs.Setup.{admission}
-use Rattle.judging.specs.Verdict.{plainCause}
-use Rattle.judging.specs.Judge.{judge, noCallReply, globalReply, expire, lastT308}
+use Rattle.verdicts.specs.Verdict.{plainCause}
+use Rattle.verdicts.specs.Expiry.{expire, lastT308}
+use Rattle.judging.specs.Judge.{judge, noCallReply, globalReply}
 use Rattle.effects.specs.declared.Effect.{Effect}
 use Rattle.effects.specs.declared.Table.{Table}
 use Rattle.effects.specs.Effect.{quiet, replying, onSlot, assigned, doubting}

@@ -16,7 +16,7 @@ use Rattle.elements.specs.declared.RestartRead.the-variants as restartRead
 use Rattle.replies.specs.declared.Diagnostic.{Diagnostic}
 use Rattle.replies.specs.declared.Diagnostic.the-variants as diagnostic
 use Rattle.replies.specs.declared.Reply.the-variants as reply
-use Rattle.judging.specs.Verdict.{because}
+use Rattle.verdicts.specs.Verdict.{because}
 use Rattle.effects.specs.declared.Effect.{Effect}
 use Rattle.effects.specs.declared.Table.{Table}
 use Rattle.effects.specs.Effect.{replying, afterGone}

@@ -22,12 +22,12 @@ use channels::Pool;
 use elements::ConnectionRead;
 use elements::RestartRead;
 use header::Header;
-use judging::Fate;
-use judging::Verdict;
 use replies::Cause;
 use replies::Diagnostic;
 use replies::Reply;
 use setup::Admission;
+use verdicts::Fate;
+use verdicts::Verdict;
 ghost use mathlib.Core.Path.{_≡_};
 ghost use mathlib.Core.Bool.{true, false};
 ghost use Prim.Native.Nat.{_≤_, _<_};
@@ -211,7 +211,7 @@ fn doubt_of(full: bool, call: Call) -> Doubting
     ensures { λ r. ⌜ r ≡ doubtOf full call ⌝ }
 {
     let phase = call.phase;
-    if judging::is_last_t308(phase) {
+    if verdicts::is_last_t308(phase) {
         if full {
             return Doubting::Keep;
         }
@@ -257,7 +257,7 @@ impl Table {
             slots,
             flag,
             0,
-            Reply::Status(0, judging::because(number, diagnostic)),
+            Reply::Status(0, verdicts::because(number, diagnostic)),
         )
     }
 
@@ -351,7 +351,7 @@ impl Table {
     {
         let slots = self.slots;
         match pair {
-            Channel::None => self.refuse_setup(reference, judging::because(45, Diagnostic::None)),
+            Channel::None => self.refuse_setup(reference, verdicts::because(45, Diagnostic::None)),
             Channel::Pair(vpci, vci) => {
                 let call = Call {
                     network: false,
@@ -378,7 +378,7 @@ impl Table {
     {
         let slots = self.slots;
         match slots.lowest_empty() {
-            Found::Nothing => self.refuse_setup(reference, judging::because(47, Diagnostic::None)),
+            Found::Nothing => self.refuse_setup(reference, verdicts::because(47, Diagnostic::None)),
             Found::At(i) => self.set_up_on(reference, i, self.free_pair()),
         }
     }
@@ -475,7 +475,7 @@ impl Table {
             Hold::Live(call) => {
                 let phase = call.phase;
                 let full = doubts.is_full();
-                let verdict = judging::expire(phase, reading, full);
+                let verdict = verdicts::expire(phase, reading, full);
                 let effect = on_slot(slots, i, !call.network, call.reference, verdict);
                 doubting(doubt_of(full, call), effect)
             }

@@ -57,10 +57,11 @@ use Rattle.readback.proofs.PairRead.{ReadFits, connection-fits}
 use Rattle.setup.specs.declared.Admission.{Admission}
 use Rattle.setup.specs.declared.Admission.the-variants.{Admitted, Refused}
 use Rattle.setup.specs.Setup.{admission}
-use Rattle.judging.specs.declared.Verdict.{Verdict}
-use Rattle.judging.specs.Verdict.{because, plainCause, answered, turned, ended as endedWith}
+use Rattle.verdicts.specs.declared.Verdict.{Verdict}
+use Rattle.verdicts.specs.Verdict.{because, plainCause, answered, turned, ended as endedWith}
+use Rattle.verdicts.specs.Expiry.{diagnosed, clearing, released, waiting, expire, lastT308}
 use Rattle.judging.specs.Class.{classify}
-use Rattle.judging.specs.Judge.{judge, noCallReply, globalReply, diagnosed, clearing, released, waiting, expire, lastT308}
+use Rattle.judging.specs.Judge.{judge, noCallReply, globalReply}
 use Rattle.effects.specs.declared.Effect.{Effect}
 use Rattle.effects.specs.declared.Table.{Table}
 use Rattle.effects.specs.Effect.{slotCount, turnedHold, flagsAt, replying, onSlot, assigned as assigning, afterGone, doubting, isSet}

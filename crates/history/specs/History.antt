@@ -31,7 +31,7 @@ use Rattle.calls.specs.declared.Slot.{Slot}
 use Rattle.calls.specs.Calls.{noSlot, moved, holdsPair}
 use Rattle.replies.specs.declared.Reply.the-variants.{RestartAcknowledge, RestartAcknowledgeAll}
 use Rattle.replies.specs.Reply.{replyOctets}
-use Rattle.judging.specs.Judge.{clearing, lastT308}
+use Rattle.verdicts.specs.Expiry.{clearing, lastT308}
 use Rattle.effects.specs.declared.Table.{Table}
 use Rattle.effects.specs.Effects.{freePair}
 use Rattle.outcome.specs.Outcome.{Outcome}

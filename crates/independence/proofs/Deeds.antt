@@ -28,10 +28,10 @@ use Rattle.replies.specs.Reply.{replyOctets}
 use Rattle.setup.specs.declared.Admission.{Admission}
 use Rattle.setup.specs.declared.Admission.the-variants.{Admitted, Refused}
 use Rattle.setup.specs.Setup.{admission}
-use Rattle.judging.specs.declared.Fate.{Fate}
-use Rattle.judging.specs.declared.Fate.the-variants as fate
-use Rattle.judging.specs.declared.Verdict.{Verdict}
-use Rattle.judging.specs.Verdict.{plainCause}
+use Rattle.verdicts.specs.declared.Fate.{Fate}
+use Rattle.verdicts.specs.declared.Fate.the-variants as fate
+use Rattle.verdicts.specs.declared.Verdict.{Verdict}
+use Rattle.verdicts.specs.Verdict.{plainCause}
 use Rattle.judging.specs.Judge.{judge, noCallReply}
 use Rattle.effects.specs.Effect.{fated, noFlags, flagsAt, flagged}
 use Rattle.effects.specs.Effects.{userCall}

@@ -34,8 +34,8 @@ use Rattle.replies.specs.declared.Reply.{Reply}
 use Rattle.setup.specs.declared.Admission.{Admission}
 use Rattle.setup.specs.declared.Admission.the-variants.{Admitted, Refused}
 use Rattle.setup.specs.Setup.{admission}
-use Rattle.judging.specs.declared.Fate.the-variants as fate
-use Rattle.judging.specs.declared.Verdict.{Verdict}
+use Rattle.verdicts.specs.declared.Fate.the-variants as fate
+use Rattle.verdicts.specs.declared.Verdict.{Verdict}
 use Rattle.judging.specs.Judge.{judge}
 use Rattle.effects.specs.declared.Effect.{Effect}
 use Rattle.effects.specs.declared.Table.{Table}

@@ -50,15 +50,16 @@ use Rattle.replies.specs.declared.Reply.the-variants as reply
 use Rattle.setup.specs.declared.Admission.{Admission}
 use Rattle.setup.specs.declared.Admission.the-variants.{Admitted, Refused}
 use Rattle.setup.specs.Setup.{admission}
+use Rattle.verdicts.specs.declared.Fate.{Fate}
+use Rattle.verdicts.specs.declared.Verdict.{Verdict}
+use Rattle.verdicts.specs.Verdict.{silent, turned, ended}
+use Rattle.verdicts.specs.Expiry.{released, expire, waiting}
 use Rattle.judging.specs.declared.Class.{Class}
 use Rattle.judging.specs.declared.Class.the-variants as class
 use Rattle.judging.specs.declared.Kind.{Kind}
 use Rattle.judging.specs.declared.Kind.the-variants as kind
-use Rattle.judging.specs.declared.Fate.{Fate}
-use Rattle.judging.specs.declared.Verdict.{Verdict}
-use Rattle.judging.specs.Verdict.{silent, turned, ended}
 use Rattle.judging.specs.Class.{inN6, inN6or9, inN10}
-use Rattle.judging.specs.Judge.{releaseReply, statusVerdict, contentsVerdict, judgedAs, judge, released, expire, waiting}
+use Rattle.judging.specs.Judge.{releaseReply, statusVerdict, contentsVerdict, judgedAs, judge}
 use Rattle.effects.specs.declared.Effect.{Effect}
 use Rattle.effects.specs.declared.Table.{Table}
 use Rattle.effects.specs.Effect.{slotCount, noFlags, flagsAt, onSlot, assigned, afterGone, isSet, doubting}

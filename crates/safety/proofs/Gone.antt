@@ -48,16 +48,17 @@ use Rattle.replies.specs.declared.Reply.the-variants as reply
 use Rattle.setup.specs.declared.Admission.{Admission}
 use Rattle.setup.specs.declared.Admission.the-variants.{Admitted, Refused}
 use Rattle.setup.specs.Setup.{admission}
+use Rattle.verdicts.specs.declared.Fate.{Fate}
+use Rattle.verdicts.specs.declared.Fate.the-variants as fate
+use Rattle.verdicts.specs.declared.Verdict.{Verdict}
+use Rattle.verdicts.specs.Verdict.{silent, turned, ended}
+use Rattle.verdicts.specs.Expiry.{released, expire, waiting}
 use Rattle.judging.specs.declared.Class.{Class}
 use Rattle.judging.specs.declared.Class.the-variants as class
 use Rattle.judging.specs.declared.Kind.{Kind}
 use Rattle.judging.specs.declared.Kind.the-variants as kind
-use Rattle.judging.specs.declared.Fate.{Fate}
-use Rattle.judging.specs.declared.Fate.the-variants as fate
-use Rattle.judging.specs.declared.Verdict.{Verdict}
-use Rattle.judging.specs.Verdict.{silent, turned, ended}
 use Rattle.judging.specs.Class.{classify}
-use Rattle.judging.specs.Judge.{statusVerdict, contentsVerdict, judgedAs, released, expire, waiting}
+use Rattle.judging.specs.Judge.{statusVerdict, contentsVerdict, judgedAs}
 use Rattle.effects.specs.declared.Effect.{Effect}
 use Rattle.effects.specs.declared.Table.{Table}
 use Rattle.effects.specs.Effect.{slotCount, onSlot, afterGone, isSet}

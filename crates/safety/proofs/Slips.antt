@@ -40,9 +40,10 @@ use Rattle.elements.specs.Values.{callStateIn}
 use Rattle.replies.specs.declared.Reply.{Reply}
 use Rattle.replies.specs.declared.Reply.the-variants as reply
 use Rattle.replies.specs.Reply.{kindOf, replyOctets}
-use Rattle.judging.specs.declared.Verdict.{Verdict}
-use Rattle.judging.specs.Verdict.{silent}
-use Rattle.judging.specs.Judge.{statusVerdict, judge, statusReply, clearing}
+use Rattle.verdicts.specs.declared.Verdict.{Verdict}
+use Rattle.verdicts.specs.Verdict.{silent}
+use Rattle.verdicts.specs.Expiry.{clearing}
+use Rattle.judging.specs.Judge.{statusVerdict, judge, statusReply}
 use Rattle.effects.specs.declared.Effect.{Effect}
 use Rattle.effects.specs.declared.Table.{Table}
 use Rattle.effects.specs.Effect.{quiet}

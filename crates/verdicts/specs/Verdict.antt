@@ -10,8 +10,8 @@ use Rattle.replies.specs.declared.Diagnostic.the-variants as diagnostic
 use Rattle.replies.specs.declared.Cause.{Cause}
 use Rattle.replies.specs.declared.Reply.{Reply}
 use Rattle.replies.specs.declared.Reply.the-variants as reply
-use Rattle.judging.specs.declared.Fate.the-variants.{Stay, To, Gone}
-use Rattle.judging.specs.declared.Verdict.{Verdict}
+use Rattle.verdicts.specs.declared.Fate.the-variants.{Stay, To, Gone}
+use Rattle.verdicts.specs.declared.Verdict.{Verdict}
 
 abbrev pub because : ℕ → Diagnostic → Cause
 because n d = record { number = n; diagnostic = d }

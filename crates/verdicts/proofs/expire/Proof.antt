@@ -1,8 +1,8 @@
--- `judging::expire` meets its contract: each state has its timer's verdict.
+-- `verdicts::expire` meets its contract: each state has its timer's verdict.
 -- Assumes nothing.
 use borrow.Author.Needs.{needs}
-use Rattle.judging.proofs.expire.Statement.{statement}
-use Rattle.judging.proofs.expire.Tie as tie
+use Rattle.verdicts.proofs.expire.Statement.{statement}
+use Rattle.verdicts.proofs.expire.Tie as tie
 
 enum-told : tie.Need-enum-told
 enum-told c = search needs

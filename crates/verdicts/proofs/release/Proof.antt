@@ -1,8 +1,8 @@
--- `judging::release` meets its contract: the deadline fits, and the cause has its diagnostic.
+-- `verdicts::release` meets its contract: the deadline fits, and the cause has its diagnostic.
 -- Assumes nothing.
 use borrow.Author.Needs.{needs}
-use Rattle.judging.proofs.release.Statement.{statement}
-use Rattle.judging.proofs.release.Tie as tie
+use Rattle.verdicts.proofs.release.Statement.{statement}
+use Rattle.verdicts.proofs.release.Tie as tie
 
 add-t7 : tie.Need-add-t7
 add-t7 c = search needs

@@ -1,8 +1,8 @@
--- `judging::expire_clearing` meets its contract: the second T308 ends the call where a doubt has room, the first does not.
+-- `verdicts::expire_clearing` meets its contract: the second T308 ends the call where a doubt has room, the first does not.
 -- Assumes nothing.
 use borrow.Author.Needs.{needs}
-use Rattle.judging.proofs.expire_clearing.Statement.{statement}
-use Rattle.judging.proofs.expire_clearing.Tie as tie
+use Rattle.verdicts.proofs.expire_clearing.Statement.{statement}
+use Rattle.verdicts.proofs.expire_clearing.Tie as tie
 
 wait-requires : tie.Need-wait-requires
 wait-requires c κs = search needs
