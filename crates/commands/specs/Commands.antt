@@ -16,9 +16,9 @@ use Rattle.replies.specs.declared.Reply.the-variants as reply
 use Rattle.replies.specs.Reply.{setupOctets}
 use Rattle.verdicts.specs.Verdict.{turned}
 use Rattle.verdicts.specs.Expiry.{released}
-use Rattle.effects.specs.declared.Table.{Table}
 use Rattle.effects.specs.declared.Effect.{Effect}
 use Rattle.effects.specs.Effect.{quiet, onSlot, assigned}
+use Rattle.table.specs.declared.Table.{Table}
 use Rattle.outcome.specs.Outcome.{Outcome, refusedWith, sending}
 
 -- "connect: CONNECT without elements, N10."

@@ -28,9 +28,9 @@ use Rattle.calls.specs.Calls.{moved, noSlot, isEmpty, isCall, emptied, unusedRe
 use Rattle.header.specs.Header.{headerIn}
 use Rattle.verdicts.specs.declared.Fate.{Fate}
 use Rattle.verdicts.specs.declared.Fate.the-variants as fate
-use Rattle.effects.specs.declared.Table.{Table}
 use Rattle.effects.specs.Effect.{fated}
-use Rattle.effects.specs.Effects.{freePair}
+use Rattle.table.specs.declared.Table.{Table}
+use Rattle.table.specs.Effects.{freePair}
 use Rattle.control.specs.Happens.{Event, message, tick, connect, clear, offer}
 use Rattle.safety.specs.Tables.{HasCall, slotAt}
 use Rattle.safety.specs.FixedAnswers.{readingOf}

@@ -22,7 +22,7 @@ use Rattle.replies.specs.Reply.{replyOctets}
 use Rattle.setup.specs.declared.Admission.the-variants.{Admitted}
 use Rattle.setup.specs.Setup.{admission}
 use Rattle.verdicts.specs.Verdict.{plainCause}
-use Rattle.effects.specs.declared.Table.{Table}
+use Rattle.table.specs.declared.Table.{Table}
 use Rattle.control.specs.Events.{heardBy, messageOf}
 use Rattle.control.specs.Happens.{Event, message, happens}
 use Rattle.safety.specs.Tables.{slotAt, HasCall, NoneFree}
