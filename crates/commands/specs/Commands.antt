@@ -14,11 +14,11 @@ use Rattle.calls.specs.declared.Hold.the-variants.{Empty, Live}
 use Rattle.calls.specs.Calls.{unusedReference}
 use Rattle.replies.specs.declared.Reply.the-variants as reply
 use Rattle.replies.specs.Reply.{setupOctets}
-use Rattle.judging.specs.Verdict.{turned}
-use Rattle.judging.specs.Judge.{released}
-use Rattle.effects.specs.declared.Table.{Table}
+use Rattle.verdicts.specs.Verdict.{turned}
+use Rattle.verdicts.specs.Expiry.{released}
 use Rattle.effects.specs.declared.Effect.{Effect}
 use Rattle.effects.specs.Effect.{quiet, onSlot, assigned}
+use Rattle.table.specs.declared.Table.{Table}
 use Rattle.outcome.specs.Outcome.{Outcome, refusedWith, sending}
 
 -- "connect: CONNECT without elements, N10."

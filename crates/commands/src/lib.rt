@@ -9,11 +9,11 @@ use calls::Hold;
 use calls::Phase;
 use channels::Channel;
 use effects::Effect;
-use effects::Table;
-use judging::Fate;
-use judging::Verdict;
 use outcome::Answer;
 use replies::Reply;
+use table::Table;
+use verdicts::Fate;
+use verdicts::Verdict;
 ghost use mathlib.Core.Path.{_≡_};
 ghost use Prim.Native.Nat.{_≤_, _<_};
 ghost use lib.ListN.{length};
@@ -40,7 +40,7 @@ pub fn clear_call(table: Table, reading: u64, slot: usize, cause: u8, call: Call
     ensures { λ r. ⌜ r ≡ cleared table reading slot cause (Hold.Live call) ⌝ }
 {
     let slots = table.slots;
-    let verdict = judging::release(reading, false, cause, false);
+    let verdict = verdicts::release(reading, false, cause, false);
     effects::on_slot(slots, slot, !call.network, call.reference, verdict)
 }
 

@@ -16,10 +16,10 @@ use Rattle.calls.specs.Timers.{someDue}
 use Rattle.header.specs.declared.Head.{Head}
 use Rattle.header.specs.declared.Head.the-variants.{Ignored, Is}
 use Rattle.header.specs.Header.{headOf}
-use Rattle.effects.specs.declared.Table.{Table}
 use Rattle.effects.specs.declared.Effect.{Effect}
 use Rattle.effects.specs.Effect.{slotCount, quiet}
-use Rattle.effects.specs.Effects.{freePair, messageEffect, tickEffect}
+use Rattle.table.specs.declared.Table.{Table}
+use Rattle.table.specs.Effects.{freePair, messageEffect, tickEffect}
 use Rattle.outcome.specs.declared.Started.{Started}
 use Rattle.outcome.specs.Refusals.{messageRefusal, commonRefusal, connectRefusal, clearRefusal, offerRefusal, holdAt}
 use Rattle.outcome.specs.Outcome.{Outcome, refusedWith, sending, acceptedAs, effectReply, unlessRefused}

@@ -4,7 +4,7 @@
 -- Assumes nothing.
 use Prim.Native.Nat.{ℕ}
 use mathlib.Core.List.{List, [], _∷_}
-use Rattle.effects.specs.declared.Table.{Table}
+use Rattle.table.specs.declared.Table.{Table}
 use Rattle.outcome.specs.Outcome.{Outcome}
 use Rattle.control.specs.Events.{messageOf, tickOf, connectOf, clearOf, offerOf}
 

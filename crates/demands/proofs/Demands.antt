@@ -5,7 +5,7 @@ use Prim.Native.Nat.{_≤_, _<_}
 use mathlib.Core.Path.{_≡_, _∙_}
 use mathlib.Core.Logic.{_≢_}
 use borrow.Author.Tests.{ne-eqb, eq-eqb, lt-ltb, le-ltb}
-use Rattle.effects.specs.declared.Table.{Table}
+use Rattle.table.specs.declared.Table.{Table}
 use Rattle.control.specs.Happens.{Event}
 use Rattle.independence.proofs.Independence.{calls-do-not-lean}
 use Rattle.independence.proofs.Leaning.{setups-lean, setup-release-lean, one-reference-leans}

@@ -46,18 +46,19 @@ use Rattle.readback.proofs.PairRead.{ReadFits, connection-fits}
 use Rattle.setup.specs.declared.Admission.{Admission}
 use Rattle.setup.specs.declared.Admission.the-variants.{Admitted, Refused}
 use Rattle.setup.specs.Setup.{absent, broken, foundIn, chosen, someNamed, isMultipoint, allowedIn, admission}
+use Rattle.verdicts.specs.declared.Verdict.{Verdict}
+use Rattle.verdicts.specs.Verdict.{because, silent, ended}
+use Rattle.verdicts.specs.Expiry.{diagnosed, released, expire, waiting}
 use Rattle.judging.specs.declared.Class.{Class}
 use Rattle.judging.specs.declared.Class.the-variants as class
 use Rattle.judging.specs.declared.Kind.{Kind}
 use Rattle.judging.specs.declared.Kind.the-variants as kind
-use Rattle.judging.specs.declared.Verdict.{Verdict}
-use Rattle.judging.specs.Verdict.{because, silent, ended}
 use Rattle.judging.specs.Class.{classify}
-use Rattle.judging.specs.Judge.{releaseComplete, releaseReply, statusVerdict, statusOf, contentsVerdict, judgedAs, statusReply, noCallReply, globalReply, diagnosed, released, expire, waiting}
+use Rattle.judging.specs.Judge.{releaseComplete, releaseReply, statusVerdict, statusOf, contentsVerdict, judgedAs, statusReply, noCallReply, globalReply}
 use Rattle.effects.specs.declared.Effect.{Effect}
-use Rattle.effects.specs.declared.Table.{Table}
 use Rattle.effects.specs.Restart.{pairRestart, restartEffect}
-use Rattle.effects.specs.Effects.{freePair, onPair, admitted, setupEffect, onNoCall, onHold, addressed, globalEffect, fireHold, fired, noRoom}
+use Rattle.table.specs.declared.Table.{Table}
+use Rattle.table.specs.Effects.{freePair, onPair, admitted, setupEffect, onNoCall, onHold, addressed, globalEffect, fireHold, fired, noRoom}
 use Rattle.outcome.specs.Refusals.{hostCauses}
 use Rattle.outcome.proofs.Causes.{host-small}
 use Rattle.commands.specs.Commands.{connected, cleared}
@@ -195,7 +196,7 @@ pub record Writable (x : Effect) : Type 0 where
   pub fits : Fitting (x .reply)
 
 module _ (t : Table) where
-  pair-restart-writable : (flag : Bool) (r : ConnectionRead) → ReadFits r → Writable (pairRestart t flag r)
+  pair-restart-writable : (flag : Bool) (r : ConnectionRead) → ReadFits r → Writable (pairRestart (t .slots) (t .pool) flag r)
   pair-restart-writable flag connectionRead.Absent f =
       record { reference = omega arith; fits = no-state-fits 96 (diagnostic.Octet 0x5A) (omega arith) (omega arith) }
   pair-restart-writable flag connectionRead.Unreadable f =
@@ -207,7 +208,7 @@ module _ (t : Table) where
       (record { reference = omega arith; fits = f }))
       (record { reference = omega arith; fits = no-state-fits 100 (diagnostic.Octet 0x5A) (omega arith) (omega arith) })
 
-  restart-writable : (flag : Bool) (r : RestartRead) (c : ConnectionRead) → ReadFits c → Writable (restartEffect t flag r c)
+  restart-writable : (flag : Bool) (r : RestartRead) (c : ConnectionRead) → ReadFits c → Writable (restartEffect (t .slots) (t .pool) flag r c)
   restart-writable flag restartRead.Absent c f =
       record { reference = omega arith; fits = no-state-fits 96 (diagnostic.Octet 0x79) (omega arith) (omega arith) }
   restart-writable flag restartRead.Unreadable c f =

@@ -30,8 +30,8 @@ use Rattle.readback.proofs.ReadBack.{octets-read-back, written-octets}
 use Rattle.readback.proofs.Sent.{reply-well-formed, reply-size, setup-written, setup-well-formed, setup-reads-back, setup-size}
 use Rattle.setup.specs.Offer.{offerFits}
 use Rattle.effects.specs.declared.Effect.{Effect}
-use Rattle.effects.specs.declared.Table.{Table}
-use Rattle.effects.specs.Effects.{freePair, tickEffect}
+use Rattle.table.specs.declared.Table.{Table}
+use Rattle.table.specs.Effects.{freePair, tickEffect}
 use Rattle.outcome.specs.Refusals.{orElse, holdAt, bodyRefusal, slotRefusal, pairRefusal}
 use Rattle.outcome.specs.Outcome.{effectReply}
 use Rattle.commands.specs.Commands.{connected, cleared, offeredOn}

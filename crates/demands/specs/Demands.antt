@@ -14,7 +14,7 @@ use lib.ListN.{length}
 use Rattle.channels.specs.Channels.{permitted}
 use Rattle.calls.specs.declared.Call.{Call}
 use Rattle.readback.specs.ReadBack.{Octets}
-use Rattle.effects.specs.declared.Table.{Table}
+use Rattle.table.specs.declared.Table.{Table}
 use Rattle.control.specs.Happens.{Event, happens}
 use Rattle.reload.specs.Reached.{Reached}
 use Rattle.independence.specs.Independence.{CallsDoNotLean}

@@ -18,8 +18,8 @@ use Rattle.replies.specs.Reply.{isSilent, meant}
 use Rattle.readback.specs.ReadBack.{Reading, unreadable, reads, readMessage}
 use Rattle.readback.specs.Replies.{setupMeant}
 use Rattle.effects.specs.declared.Effect.{Effect}
-use Rattle.effects.specs.declared.Table.{Table}
-use Rattle.effects.specs.Effects.{freePair, tickEffect}
+use Rattle.table.specs.declared.Table.{Table}
+use Rattle.table.specs.Effects.{freePair, tickEffect}
 use Rattle.outcome.specs.Refusals.{holdAt}
 use Rattle.commands.specs.Commands.{connected, cleared}
 use Rattle.control.specs.Events.{heardBy}

@@ -1,19 +1,19 @@
--- What an accepted event does to the table: one value, from which the answer is read off.
+-- What an accepted event does to the slots of calls and to the doubts: one value, from which the answer is read off.
 --   fated                  a slot after its call's fate
 --   noFlags, flagsAt       no flag, and the flag of one slot
 --   quiet, replying        nothing happens; a reply alone
 --   onSlot                 a verdict performed on the call of one slot
 --   assigned               a call put into an empty slot
 --   afterGone              some calls are gone, and doubts may end
---   doubting               what an effect does to the doubts
+--   doubtOf, doubting      the doubt that a timer begins; what an effect does to the doubts
 -- Assumes nothing.
 use Prim.Native.Nat.{ℕ}
-use mathlib.Core.Bool.{Bool, true, false, cond}
+use mathlib.Core.Bool.{Bool, true, false, not, cond, _&&_}
 use lib.Dec.{eqb}
 use lib.ListN.{getD, set, replicate}
 use Rattle.channels.specs.Some.{someOf}
 use Rattle.channels.specs.declared.Doubting.{Doubting}
-use Rattle.channels.specs.declared.Doubting.the-variants.{Keep}
+use Rattle.channels.specs.declared.Doubting.the-variants.{Keep, Begin}
 use Rattle.calls.specs.declared.Phase.{Phase}
 use Rattle.calls.specs.declared.Call.{Call}
 use Rattle.calls.specs.declared.Hold.{Hold}
@@ -25,9 +25,10 @@ use Rattle.calls.specs.declared.Gone.{Gone}
 use Rattle.calls.specs.Calls.{moved, noSlot}
 use Rattle.replies.specs.declared.Reply.{Reply}
 use Rattle.replies.specs.declared.Reply.the-variants as reply
-use Rattle.judging.specs.declared.Fate.{Fate}
-use Rattle.judging.specs.declared.Fate.the-variants as fate
-use Rattle.judging.specs.declared.Verdict.{Verdict}
+use Rattle.verdicts.specs.declared.Fate.{Fate}
+use Rattle.verdicts.specs.declared.Fate.the-variants as fate
+use Rattle.verdicts.specs.declared.Verdict.{Verdict}
+use Rattle.verdicts.specs.Expiry.{lastT308}
 use Rattle.effects.specs.declared.Effect.{Effect}
 
 -- "The table has the 32 slots of calls"
@@ -101,6 +102,10 @@ afterGone g doubt flag answer = record {
   notice = goneNotice (g .flags);
   flags = g .flags;
 }
+
+-- document 02, R-2: "on the second T308 expiry .. the pair is in doubt, not free; the slot is empty, notice 3"; with 64 it waits
+abbrev pub doubtOf : Bool → Call → Doubting
+doubtOf full c = cond (lastT308 (c .phase) && not full) (Begin (c .vpci) (c .vci)) Keep
 
 -- an effect with what it does to the doubts
 abbrev pub doubting : Doubting → Effect → Effect

@@ -1,6 +1,5 @@
 // Reads an event script from standard input, and writes one answer line for each event.
 use calls::Flags;
-use effects::Table;
 use outcome::Answer;
 use outcome::Started;
 use saved::Saved;
@@ -8,6 +7,7 @@ use script::Clock;
 use script::Line;
 use script::List;
 use script::Request;
+use table::Table;
 ghost use mathlib.Core.Path.{_≡_};
 ghost use Prim.Native.Nat.{_+_, _≤_};
 ghost use lib.ListN.{length};

@@ -23,13 +23,13 @@ use Rattle.calls.specs.Timers.{someDue}
 use Rattle.replies.specs.declared.Reply.{Reply}
 use Rattle.replies.specs.declared.Reply.the-variants as reply
 use Rattle.replies.specs.Reply.{replyOctets}
-use Rattle.judging.specs.declared.Verdict.{Verdict}
-use Rattle.judging.specs.Verdict.{ended}
-use Rattle.judging.specs.Judge.{expire, lastT308}
+use Rattle.verdicts.specs.declared.Verdict.{Verdict}
+use Rattle.verdicts.specs.Verdict.{ended}
+use Rattle.verdicts.specs.Expiry.{expire, lastT308}
 use Rattle.effects.specs.declared.Effect.{Effect}
-use Rattle.effects.specs.declared.Table.{Table}
-use Rattle.effects.specs.Effect.{fated, onSlot, doubting}
-use Rattle.effects.specs.Effects.{noRoom, doubtOf, fireHold, fired, tickEffect}
+use Rattle.effects.specs.Effect.{fated, onSlot, doubtOf, doubting}
+use Rattle.table.specs.declared.Table.{Table}
+use Rattle.table.specs.Effects.{noRoom, fireHold, fired, tickEffect}
 use Rattle.outcome.specs.Outcome.{Outcome, sending, effectReply}
 use Rattle.control.specs.Happens.{tick, happens}
 use Rattle.safety.specs.Tables.{slotAt, InDoubt}

@@ -16,7 +16,7 @@ use Rattle.channels.specs.declared.Pool.{Pool}
 use Rattle.channels.proofs.Cases.{by-test, clash}
 use Rattle.channels.proofs.Lowest as lowest
 use Rattle.calls.specs.Calls.{holdsPair, heldOf}
-use Rattle.effects.specs.declared.Table.{Table}
+use Rattle.table.specs.declared.Table.{Table}
 use Rattle.control.specs.Happens.{Event, happens, after}
 use Rattle.safety.specs.Sound.{Sound, AllInOctets}
 use Rattle.safety.proofs.Tables.{some-held}

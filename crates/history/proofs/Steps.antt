@@ -57,15 +57,16 @@ use Rattle.readback.proofs.PairRead.{ReadFits, connection-fits}
 use Rattle.setup.specs.declared.Admission.{Admission}
 use Rattle.setup.specs.declared.Admission.the-variants.{Admitted, Refused}
 use Rattle.setup.specs.Setup.{admission}
-use Rattle.judging.specs.declared.Verdict.{Verdict}
-use Rattle.judging.specs.Verdict.{because, plainCause, answered, turned, ended as endedWith}
+use Rattle.verdicts.specs.declared.Verdict.{Verdict}
+use Rattle.verdicts.specs.Verdict.{because, plainCause, answered, turned, ended as endedWith}
+use Rattle.verdicts.specs.Expiry.{diagnosed, clearing, released, waiting, expire, lastT308}
 use Rattle.judging.specs.Class.{classify}
-use Rattle.judging.specs.Judge.{judge, noCallReply, globalReply, diagnosed, clearing, released, waiting, expire, lastT308}
+use Rattle.judging.specs.Judge.{judge, noCallReply, globalReply}
 use Rattle.effects.specs.declared.Effect.{Effect}
-use Rattle.effects.specs.declared.Table.{Table}
 use Rattle.effects.specs.Effect.{slotCount, turnedHold, flagsAt, replying, onSlot, assigned as assigning, afterGone, doubting, isSet}
 use Rattle.effects.specs.Restart.{restartStatus, pairRestart, restartEffect}
-use Rattle.effects.specs.Effects.{freePair, userCall, onPair, admitted, setupEffect, onNoCall, onHold, addressed, globalEffect, noRoom, fireHold, fired}
+use Rattle.table.specs.declared.Table.{Table}
+use Rattle.table.specs.Effects.{freePair, userCall, onPair, admitted, setupEffect, onNoCall, onHold, addressed, globalEffect, noRoom, fireHold, fired}
 use Rattle.outcome.specs.Refusals.{holdAt}
 use Rattle.outcome.specs.Outcome.{Outcome, sending, refusedWith, effectReply}
 use Rattle.commands.specs.Commands.{connected, cleared, networkCall, offeredOn}
@@ -333,10 +334,10 @@ module _ (t : Table) (s : Sound t) (p v : ℕ) (ok : permitted (t .pool) p v ≡
         (none-emptied has-it refl isLive (λ x h. held-live p v (x .hold) h) ss)
         (none-among doubtRoom p v)
 
-    status-steps : (n : ℕ) (d : Diagnostic) → Receives (restartStatus t true n d)
+    status-steps : (n : ℕ) (d : Diagnostic) → Receives (restartStatus (t .slots) true n d)
     status-steps n d = replying-steps heard reading true 0 (reply.Status 0 (because n d)) refl
 
-    pair-restart-steps : (r : ConnectionRead) → ReadFits r → Receives (pairRestart t true r)
+    pair-restart-steps : (r : ConnectionRead) → ReadFits r → Receives (pairRestart (t .slots) (t .pool) true r)
     pair-restart-steps connectionRead.Absent fit = status-steps 96 (diagnostic.Octet 0x5A)
     pair-restart-steps connectionRead.Unreadable fit = status-steps 100 (diagnostic.Octet 0x5A)
     pair-restart-steps (connectionRead.Pair q w) fit =
@@ -344,7 +345,7 @@ module _ (t : Table) (s : Sound t) (p v : ℕ) (ok : permitted (t .pool) p v ≡
         (by-cond Receives (ltb w 32 || permanent (t .pool) q w) _ _ (status-steps 82 (diagnostic.Pair q w)) (restarted-pair q w fit))
         (status-steps 100 (diagnostic.Octet 0x5A))
 
-    restart-steps : (r : RestartRead) (c : ConnectionRead) → ReadFits c → Receives (restartEffect t true r c)
+    restart-steps : (r : RestartRead) (c : ConnectionRead) → ReadFits c → Receives (restartEffect (t .slots) (t .pool) true r c)
     restart-steps restartRead.Absent c fit = status-steps 96 (diagnostic.Octet 0x79)
     restart-steps restartRead.Unreadable c fit = status-steps 100 (diagnostic.Octet 0x79)
     restart-steps (restartRead.Class k) c fit = by-cond Receives (eqb k 0x82) _ _ restarted-all (pair-restart-steps c fit)

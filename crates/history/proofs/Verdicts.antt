@@ -17,12 +17,12 @@ use Rattle.elements.specs.declared.CallStateRead.{CallStateRead}
 use Rattle.elements.specs.declared.CallStateRead.the-variants as callStateRead
 use Rattle.elements.specs.Values.{causeIn, callStateIn}
 use Rattle.replies.specs.declared.Reply.{Reply}
+use Rattle.verdicts.specs.declared.Verdict.{Verdict}
+use Rattle.verdicts.specs.Verdict.{answered, silent, turned, ended}
 use Rattle.judging.specs.declared.Class.{Class}
 use Rattle.judging.specs.declared.Class.the-variants as class
 use Rattle.judging.specs.declared.Kind.{Kind}
 use Rattle.judging.specs.declared.Kind.the-variants as kind
-use Rattle.judging.specs.declared.Verdict.{Verdict}
-use Rattle.judging.specs.Verdict.{answered, silent, turned, ended}
 use Rattle.judging.specs.Judge.{releaseComplete, releaseReply, statusVerdict, contentsVerdict, judgedAs, statusReply, noCallReply, globalReply}
 use Rattle.safety.proofs.Cases.{by-cond}
 use Rattle.history.proofs.Acknowledged.{Other}

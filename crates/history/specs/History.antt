@@ -31,9 +31,9 @@ use Rattle.calls.specs.declared.Slot.{Slot}
 use Rattle.calls.specs.Calls.{noSlot, moved, holdsPair}
 use Rattle.replies.specs.declared.Reply.the-variants.{RestartAcknowledge, RestartAcknowledgeAll}
 use Rattle.replies.specs.Reply.{replyOctets}
-use Rattle.judging.specs.Judge.{clearing, lastT308}
-use Rattle.effects.specs.declared.Table.{Table}
-use Rattle.effects.specs.Effects.{freePair}
+use Rattle.verdicts.specs.Expiry.{clearing, lastT308}
+use Rattle.table.specs.declared.Table.{Table}
+use Rattle.table.specs.Effects.{freePair}
 use Rattle.outcome.specs.Outcome.{Outcome}
 use Rattle.control.specs.Events.{startOf}
 use Rattle.control.specs.Happens.{Event, message, tick, connect, clear, offer, happens, after}

@@ -18,8 +18,8 @@ use Rattle.calls.specs.declared.Slot.{Slot}
 use Rattle.calls.specs.Calls.{noSlot, isEmpty}
 use Rattle.calls.proofs.First.{Off, first-after, place-after, upd-comm}
 use Rattle.header.specs.declared.Header.{Header}
-use Rattle.effects.specs.declared.Table.{Table}
 use Rattle.effects.specs.Effect.{fated}
+use Rattle.table.specs.declared.Table.{Table}
 use Rattle.independence.specs.Independence.{Heard, hear, AcceptedIn, headed, Qualifies, IsSetup, KeepsOrder, within-reference, setup-before, before-setup, easy}
 use Rattle.independence.proofs.Deeds.{Deed, turns, fills, given, reaches, changed, perform, sight, decide, decision, mine, Ground, groundOf, freeOn}
 use Rattle.independence.proofs.Hearing.{afterDeed, does, takes, hears, still-accepted, refusalOf, refusedWith}

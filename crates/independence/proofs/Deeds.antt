@@ -8,7 +8,7 @@ use Prim.Native.Nat.{ℕ}
 use mathlib.Core.Bool.{Bool, true, false, not, cond, _&&_}
 use mathlib.Core.List.{List, map}
 use lib.Dec.{eqb}
-use Rattle.effects.specs.declared.Table.{Table}
+use Rattle.table.specs.declared.Table.{Table}
 use Rattle.channels.specs.declared.Entry.{Entry}
 use Rattle.channels.specs.declared.Channel.{Channel}
 use Rattle.channels.specs.declared.Channel.the-variants.{None, Pair}
@@ -28,13 +28,13 @@ use Rattle.replies.specs.Reply.{replyOctets}
 use Rattle.setup.specs.declared.Admission.{Admission}
 use Rattle.setup.specs.declared.Admission.the-variants.{Admitted, Refused}
 use Rattle.setup.specs.Setup.{admission}
-use Rattle.judging.specs.declared.Fate.{Fate}
-use Rattle.judging.specs.declared.Fate.the-variants as fate
-use Rattle.judging.specs.declared.Verdict.{Verdict}
-use Rattle.judging.specs.Verdict.{plainCause}
+use Rattle.verdicts.specs.declared.Fate.{Fate}
+use Rattle.verdicts.specs.declared.Fate.the-variants as fate
+use Rattle.verdicts.specs.declared.Verdict.{Verdict}
+use Rattle.verdicts.specs.Verdict.{plainCause}
 use Rattle.judging.specs.Judge.{judge, noCallReply}
 use Rattle.effects.specs.Effect.{fated, noFlags, flagsAt, flagged}
-use Rattle.effects.specs.Effects.{userCall}
+use Rattle.table.specs.Effects.{userCall}
 use Rattle.independence.specs.Independence.{Given}
 
 -- `turns`: the first call of the message's flagged reference has a fate. `fills`: the lowest empty slot gets a call of this reference on this pair

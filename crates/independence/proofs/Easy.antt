@@ -18,11 +18,11 @@ use Rattle.calls.specs.declared.Hold.the-variants.{Empty, Live}
 use Rattle.calls.specs.declared.Found.{Found}
 use Rattle.calls.specs.declared.Found.the-variants.{Nothing, At}
 use Rattle.header.specs.declared.Header.{Header}
+use Rattle.verdicts.specs.declared.Verdict.{Verdict}
 use Rattle.judging.specs.declared.Class.{Class}
 use Rattle.judging.specs.declared.Class.the-variants as class
 use Rattle.judging.specs.declared.Kind.{Kind}
 use Rattle.judging.specs.declared.Kind.the-variants as kind
-use Rattle.judging.specs.declared.Verdict.{Verdict}
 use Rattle.judging.specs.Class.{classify, inN6, inN6or9, inN10}
 use Rattle.judging.specs.Judge.{contentsVerdict, judgedAs}
 use Rattle.independence.specs.Independence.{Given, easy}

@@ -34,13 +34,13 @@ use Rattle.replies.specs.declared.Reply.{Reply}
 use Rattle.setup.specs.declared.Admission.{Admission}
 use Rattle.setup.specs.declared.Admission.the-variants.{Admitted, Refused}
 use Rattle.setup.specs.Setup.{admission}
-use Rattle.judging.specs.declared.Fate.the-variants as fate
-use Rattle.judging.specs.declared.Verdict.{Verdict}
+use Rattle.verdicts.specs.declared.Fate.the-variants as fate
+use Rattle.verdicts.specs.declared.Verdict.{Verdict}
 use Rattle.judging.specs.Judge.{judge}
 use Rattle.effects.specs.declared.Effect.{Effect}
-use Rattle.effects.specs.declared.Table.{Table}
 use Rattle.effects.specs.Effect.{replying, onSlot, fated, noFlags}
-use Rattle.effects.specs.Effects as effects
+use Rattle.table.specs.declared.Table.{Table}
+use Rattle.table.specs.Effects as effects
 use Rattle.outcome.specs.Refusals.{orElse, sizeRefusal, messageRefusal}
 use Rattle.outcome.specs.Outcome.{Outcome, acceptedAs, unlessRefused}
 use Rattle.control.specs.Events.{heardBy}

@@ -7,7 +7,7 @@ use mathlib.Core.List.{List}
 use lib.ListN.{length, getD}
 use Rattle.reorder.specs.Reorder.{Order}
 use Rattle.reorder.proofs.Reorder.{reorder, reorder-each}
-use Rattle.effects.specs.declared.Table.{Table}
+use Rattle.table.specs.declared.Table.{Table}
 use Rattle.independence.specs.Independence.{Heard, Given, hear, AcceptedIn, Qualifies, KeepsOrder, SameResults, CallsDoNotLean}
 use Rattle.independence.proofs.Hearing.{hears, still-accepted}
 use Rattle.independence.proofs.Commutes.{heard-commute}

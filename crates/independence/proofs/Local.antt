@@ -29,8 +29,8 @@ use Rattle.header.specs.declared.Header.{Header}
 use Rattle.setup.specs.declared.Admission.{Admission}
 use Rattle.setup.specs.declared.Admission.the-variants.{Admitted, Refused}
 use Rattle.setup.specs.Setup.{admission}
-use Rattle.judging.specs.declared.Fate.{Fate}
-use Rattle.judging.specs.declared.Fate.the-variants as fate
+use Rattle.verdicts.specs.declared.Fate.{Fate}
+use Rattle.verdicts.specs.declared.Fate.the-variants as fate
 use Rattle.effects.specs.Effect.{turnedHold, fated}
 use Rattle.independence.specs.Independence.{Given}
 use Rattle.independence.proofs.Deeds.{Deed, turns, fills, reaches, changed, userSlot, Sight, onPair, admit, setUp, onNoCall, onHold, decideAt, decide, mine}

@@ -18,7 +18,7 @@ use Rattle.calls.specs.declared.Flags.{Flags}
 use Rattle.header.specs.declared.Header.{Header}
 use Rattle.header.specs.declared.Head.the-variants.{Is}
 use Rattle.header.specs.Header.{headerIn, headOf}
-use Rattle.effects.specs.declared.Table.{Table}
+use Rattle.table.specs.declared.Table.{Table}
 use Rattle.outcome.specs.Refusals.{largestReading}
 use Rattle.outcome.specs.Outcome.{Outcome}
 use Rattle.control.specs.Events.{messageOf}

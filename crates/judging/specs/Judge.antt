@@ -1,18 +1,16 @@
--- The judgement of a message on a live call, on no call and on the global reference, and of a timer that fires.
+-- The judgement of a message on a live call, on no call and on the global reference.
 --   releaseReply, statusVerdict    RELEASE and STATUS on a live call
 --   contentsVerdict                step 6 of an expected message
 --   judge                          steps 3 to 6 of a message on a live call
---   noCallReply                     steps 3 to 6 of a message on no call, other than SETUP
+--   noCallReply                    steps 3 to 6 of a message on no call, other than SETUP
 --   globalReply                    step 3 of a message on the global reference, other than RESTART with flag 0
---   diagnosed, expire              what a firing timer does
 -- Assumes nothing.
 use Prim.Native.Nat.{ℕ, _+_}
-use mathlib.Core.Bool.{Bool, true, false, cond, _&&_}
+use mathlib.Core.Bool.{cond, _&&_}
 use mathlib.Core.List.{List}
 use lib.Dec.{eqb}
 use Rattle.calls.specs.declared.Phase.{Phase}
 use Rattle.calls.specs.declared.Phase.the-variants.{N3, N6, N9, N10, N12}
-use Rattle.calls.specs.declared.Clearing.{Clearing}
 use Rattle.calls.specs.Calls.{stateNumber}
 use Rattle.header.specs.declared.Header.{Header}
 use Rattle.elements.specs.declared.CauseRead.{CauseRead}
@@ -24,13 +22,13 @@ use Rattle.replies.specs.declared.Diagnostic.{Diagnostic}
 use Rattle.replies.specs.declared.Diagnostic.the-variants as diagnostic
 use Rattle.replies.specs.declared.Reply.{Reply}
 use Rattle.replies.specs.declared.Reply.the-variants as reply
+use Rattle.verdicts.specs.declared.Verdict.{Verdict}
+use Rattle.verdicts.specs.Verdict.{because, plainCause, answered, silent, turned, ended}
 use Rattle.judging.specs.declared.Class.{Class}
 use Rattle.judging.specs.declared.Class.the-variants as class
 use Rattle.judging.specs.declared.Kind.{Kind}
 use Rattle.judging.specs.declared.Kind.the-variants as kind
-use Rattle.judging.specs.declared.Verdict.{Verdict}
 use Rattle.judging.specs.Class.{classify}
-use Rattle.judging.specs.Verdict.{because, plainCause, answered, silent, turned, ended}
 
 -- "RELEASE COMPLETE: no element, or 96 or 100 with 08 if Cause is absent or unreadable."
 abbrev pub releaseComplete : CauseRead → Reply
@@ -104,39 +102,3 @@ globalReply h =
     (cond (eqb (h .kind) 0x4E && h .flag)
     (reply.Status 0 (because 101 (diagnostic.Octet 0x4E)))
     (reply.Status 0 (plainCause 81)))
-
--- the diagnostic "310" or none
-abbrev pub diagnosed : Bool → Diagnostic
-diagnosed expired = cond expired diagnostic.Timer diagnostic.None
-
--- RELEASE with its cause, and T308 of 30,000 ms
-abbrev pub clearing : ℕ → Bool → ℕ → Bool → Phase
-clearing reading second cause expired = N12 (record { deadline = reading + 30000; second = second; cause = cause; expired = expired })
-
-abbrev pub released : ℕ → Bool → ℕ → Bool → Verdict
-released reading second cause expired =
-    turned (clearing reading second cause expired) (reply.Release (because cause (diagnosed expired))) 0
-
--- document 02, R-2: "with 64, a second expiry keeps the call in N12 and starts T308 again, sending nothing"
-abbrev pub waiting : ℕ → Clearing → Verdict
-waiting reading k = turned (clearing reading true (k .cause) (k .expired)) reply.None 0
-
--- "T308 30,000: first, RELEASE with the first cause and diagnostic again and T308; second, gone."; full: there are 64 pairs in doubt
-abbrev pub expireClearing : Bool → Clearing → ℕ → Verdict
-expireClearing full k reading = cond (k .second) (cond full (waiting reading k) (ended reply.None)) (released reading true (k .cause) (k .expired))
-
--- "T303 4,000 ms: gone, no message (house). T310 10,000: RELEASE 102, diagnostic "310", N12, T308." N3 and N10 run no timer
-abbrev pub expire : Bool → Phase → ℕ → Verdict
-expire full N3 reading = silent
-expire full (N6 d) reading = ended reply.None
-expire full (N9 d) reading = released reading false 102 true
-expire full N10 reading = silent
-expire full (N12 k) reading = expireClearing full k reading
-
--- document 02, R-2: "on the second T308 expiry": the second T308 runs in this state
-abbrev pub lastT308 : Phase → Bool
-lastT308 N3 = false
-lastT308 (N6 d) = false
-lastT308 (N9 d) = false
-lastT308 N10 = false
-lastT308 (N12 k) = k .second

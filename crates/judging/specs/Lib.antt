@@ -1,3 +1,2 @@
 pub mod Class
-pub mod Verdict
 pub mod Judge

@@ -1,27 +1,26 @@
-// Judgements: what a message or a firing timer does to the one call that it names, decided from the message and the call's state alone.
-//   Class, Fate, Verdict      what a message is to a call; what becomes of the call; that with the reply and the notice
-//   because                   a cause with its diagnostic
+// Judgements: what a message does to the one call that it names, decided from the message and the call's state alone.
+//   Class, Kind               what a message is to a call, and which of those that are expected
 //   class_of                  the decision over type number and state
 //   judge                     a message on a live call
 //   no_call_reply             the reply to a message on no call, other than SETUP
 //   global_reply              the reply to a message on the global reference, other than RESTART with flag 0
-//   release, expire           a call is cleared by the host; a timer fires
-//   is_last_t308              if the second T308 runs
-// `judge`, `release` and `expire` ask for a reading that is not refused. Assumes nothing.
-use calls::Clearing;
+// `judge` asks for a reading that is not refused. Assumes nothing.
 use calls::Phase;
 use elements::CallStateRead;
 use elements::CauseRead;
 use header::Header;
-use replies::Cause;
 use replies::Diagnostic;
 use replies::Reply;
+use verdicts::Verdict;
+use verdicts::answered;
+use verdicts::because;
+use verdicts::ended;
+use verdicts::plain_cause;
+use verdicts::turned;
 ghost use mathlib.Core.Path.{_≡_};
-ghost use mathlib.Core.Bool.{false};
 ghost use Prim.Native.Nat.{_≤_};
 ghost use Rattle.judging.specs.Class.{classify};
-ghost use Rattle.judging.specs.Verdict.{because, plainCause, answered, turned, ended};
-ghost use Rattle.judging.specs.Judge.{releaseComplete, releaseReply, statusVerdict, statusOf, contentsVerdict, judge, statusReply, noCallReply, globalReply, diagnosed, released, waiting, expireClearing, expire, lastT308};
+ghost use Rattle.judging.specs.Judge.{releaseComplete, releaseReply, statusVerdict, statusOf, contentsVerdict, judge, statusReply, noCallReply, globalReply};
 ghost use Rattle.elements.specs.Values.{causeIn, callStateIn};
 
 // What a message is to a live call.
@@ -40,19 +39,6 @@ pub enum Kind {
     ReleaseComplete,
     StatusEnquiry,
     Status,
-}
-
-// What becomes of a call.
-pub enum Fate {
-    Stay,
-    To(Phase),
-    Gone,
-}
-
-pub struct Verdict {
-    pub fate: Fate,
-    pub reply: Reply,
-    pub notice: u8,
 }
 
 // What a message of this type is to a call in this state; every other number is unknown.
@@ -89,55 +75,6 @@ pub fn class_of(kind: u8, phase: Phase) -> Class
         0x75 => Class::Expected(Kind::StatusEnquiry),
         0x7D => Class::Expected(Kind::Status),
         _ => Class::Unknown,
-    }
-}
-
-// A cause with its diagnostic.
-pub fn because(number: u8, diagnostic: Diagnostic) -> Cause
-    ensures { λ r. ⌜ r ≡ because number diagnostic ⌝ }
-{
-    Cause {
-        number: number,
-        diagnostic: diagnostic,
-    }
-}
-
-fn plain_cause(number: u8) -> Cause
-    ensures { λ r. ⌜ r ≡ plainCause number ⌝ }
-{
-    because(number, Diagnostic::None)
-}
-
-// The call stays as it is.
-fn answered(reply: Reply) -> Verdict
-    ensures { λ r. ⌜ r ≡ answered reply ⌝ }
-{
-    Verdict {
-        fate: Fate::Stay,
-        reply: reply,
-        notice: 0,
-    }
-}
-
-// The call goes to another state.
-fn turned(phase: Phase, reply: Reply, notice: u8) -> Verdict
-    ensures { λ r. ⌜ r ≡ turned phase reply notice ⌝ }
-{
-    Verdict {
-        fate: Fate::To(phase),
-        reply: reply,
-        notice: notice,
-    }
-}
-
-// The call is gone: the host is told.
-fn ended(reply: Reply) -> Verdict
-    ensures { λ r. ⌜ r ≡ ended reply ⌝ }
-{
-    Verdict {
-        fate: Fate::Gone,
-        reply: reply,
-        notice: 3,
     }
 }
 
@@ -266,87 +203,5 @@ pub fn global_reply(head: Header) -> Reply
             Reply::Status(0, plain_cause(81))
         }
         _ => Reply::Status(0, plain_cause(81)),
-    }
-}
-
-fn diagnosed(expired: bool) -> Diagnostic
-    ensures { λ r. ⌜ r ≡ diagnosed expired ⌝ }
-{
-    if expired {
-        return Diagnostic::Timer;
-    }
-    Diagnostic::None
-}
-
-// RELEASE is sent, and T308 runs.
-pub fn release(reading: u64, second: bool, cause: u8, expired: bool) -> Verdict
-    requires { ⌜ reading ≤ 4000000000000 ⌝ }
-    ensures { λ r. ⌜ r ≡ released reading second cause expired ⌝ }
-{
-    let clearing = Clearing {
-        deadline: reading + 30000,
-        second: second,
-        cause: cause,
-        expired: expired,
-    };
-    let diagnostic = diagnosed(expired);
-    turned(
-        Phase::N12(clearing),
-        Reply::Release(because(cause, diagnostic)),
-        0,
-    )
-}
-
-// With no room for a doubt, the call waits: T308 starts again, and nothing is sent.
-fn wait(reading: u64, clearing: Clearing) -> Verdict
-    requires { ⌜ reading ≤ 4000000000000 ⌝ }
-    ensures { λ r. ⌜ r ≡ waiting reading clearing ⌝ }
-{
-    let again = Clearing {
-        deadline: reading + 30000,
-        second: true,
-        cause: clearing.cause,
-        expired: clearing.expired,
-    };
-    turned(Phase::N12(again), Reply::None, 0)
-}
-
-fn expire_clearing(clearing: Clearing, reading: u64, full: bool) -> Verdict
-    requires { ⌜ reading ≤ 4000000000000 ⌝ }
-    ensures { λ r. ⌜ r ≡ expireClearing full clearing reading ⌝ }
-{
-    if clearing.second {
-        if full {
-            return wait(reading, clearing);
-        }
-        return ended(Reply::None);
-    }
-    release(reading, true, clearing.cause, clearing.expired)
-}
-
-// If the second T308 runs in this state.
-pub fn is_last_t308(phase: Phase) -> bool
-    ensures { λ r. ⌜ r ≡ lastT308 phase ⌝ }
-{
-    match phase {
-        Phase::N3 => false,
-        Phase::N6(_) => false,
-        Phase::N9(_) => false,
-        Phase::N10 => false,
-        Phase::N12(clearing) => clearing.second,
-    }
-}
-
-// The timer of a call in this state fires; `full`: there is no room for a doubt.
-pub fn expire(phase: Phase, reading: u64, full: bool) -> Verdict
-    requires { ⌜ reading ≤ 4000000000000 ⌝ }
-    ensures { λ r. ⌜ r ≡ expire full phase reading ⌝ }
-{
-    match phase {
-        Phase::N3 => answered(Reply::None),
-        Phase::N6(_) => ended(Reply::None),
-        Phase::N9(_) => release(reading, false, 102, true),
-        Phase::N10 => answered(Reply::None),
-        Phase::N12(clearing) => expire_clearing(clearing, reading, full),
     }
 }

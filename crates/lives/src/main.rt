@@ -3,8 +3,8 @@
 // clear, RELEASE COMPLETE) or 2 for one that ends at once (SETUP, RELEASE COMPLETE); how many calls stand beside it;
 // hundreds of lives; which lists it starts with (`table_of`). Writes the lengths of all replies added up modulo
 // 1,000,000.
-use effects::Table;
 use outcome::Answer;
+use table::Table;
 ghost use Prim.Native.Nat.{_<_};
 
 // A SETUP on reference 0; its elements are an offer's body too.

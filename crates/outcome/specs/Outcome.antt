@@ -11,9 +11,9 @@ use lib.Dec.{eqb}
 use lib.ListN.{length}
 use Rattle.channels.specs.Doubts.{doubtsOf, doubtsAfter}
 use Rattle.replies.specs.Reply.{replyOctets}
-use Rattle.effects.specs.declared.Table.{Table}
 use Rattle.effects.specs.declared.Effect.{Effect}
 use Rattle.effects.specs.Effect.{noFlags}
+use Rattle.table.specs.declared.Table.{Table}
 use Rattle.outcome.specs.declared.Answer.{Answer}
 
 pub record Outcome : Type 0 where

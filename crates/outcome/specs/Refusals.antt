@@ -20,9 +20,9 @@ use Rattle.calls.specs.declared.Found.the-variants.{Nothing, At}
 use Rattle.calls.specs.First.{place}
 use Rattle.calls.specs.Calls.{noSlot, isEmpty}
 use Rattle.setup.specs.Offer.{offerFits}
-use Rattle.effects.specs.declared.Table.{Table}
 use Rattle.effects.specs.Effect.{slotCount}
-use Rattle.effects.specs.Effects.{freePair}
+use Rattle.table.specs.declared.Table.{Table}
+use Rattle.table.specs.Effects.{freePair}
 
 abbrev pub orElse : ℕ → ℕ → ℕ
 orElse n next = cond (eqb n 0) next n

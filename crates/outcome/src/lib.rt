@@ -13,7 +13,7 @@ use calls::Flags;
 use calls::Hold;
 use calls::Phase;
 use effects::Effect;
-use effects::Table;
+use table::Table;
 ghost use mathlib.Core.Path.{_≡_};
 ghost use Prim.Native.Nat.{_≤_};
 ghost use lib.ListN.{length};

@@ -9,7 +9,7 @@ use mathlib.Core.List.{List, []}
 use lib.Dec.{leb}
 use Rattle.octets.specs.Octets.{equal}
 use Rattle.provisioning.specs.Provisioning.{provision}
-use Rattle.effects.specs.declared.Table.{Table}
+use Rattle.table.specs.declared.Table.{Table}
 use Rattle.outcome.specs.declared.Started.{Started}
 use Rattle.outcome.specs.Refusals.{largestReading}
 use Rattle.control.specs.Events.{startOf}

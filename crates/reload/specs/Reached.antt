@@ -7,7 +7,7 @@ use Prim.Native.Nat.{ℕ, _<_}
 use mathlib.Core.Path.{_≡_}
 use mathlib.Core.List.{List}
 use lib.ListN.{getD}
-use Rattle.effects.specs.declared.Table.{Table}
+use Rattle.table.specs.declared.Table.{Table}
 use Rattle.outcome.specs.declared.Started.{Started}
 use Rattle.control.specs.Events.{startOf}
 use Rattle.control.specs.Happens.{Event, after}

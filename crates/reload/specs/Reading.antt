@@ -26,7 +26,7 @@ use Rattle.calls.specs.declared.Hold.the-variants.{Live}
 use Rattle.calls.specs.declared.Slot.{Slot}
 use Rattle.calls.specs.Calls.{slotsOf, noSlot}
 use Rattle.provisioning.specs.Provisioning.{entryAt, numbered, provision}
-use Rattle.effects.specs.declared.Table.{Table}
+use Rattle.table.specs.declared.Table.{Table}
 
 abbrev pub twoAt : List ℕ → ℕ → ℕ
 twoAt f k = number (getD f k 0) (getD f (k + 1) 0)

@@ -28,8 +28,8 @@ use Rattle.calls.specs.declared.Found.{Found}
 use Rattle.calls.specs.declared.Found.the-variants.{Nothing, At}
 use Rattle.calls.specs.First.{place}
 use Rattle.calls.specs.Calls.{isCall, holdsPair}
-use Rattle.effects.specs.declared.Table.{Table}
 use Rattle.effects.specs.Effect.{slotCount}
+use Rattle.table.specs.declared.Table.{Table}
 use Rattle.outcome.specs.declared.Started.{Started}
 use Rattle.outcome.specs.Refusals.{largestReading, hostCauses, holdAt}
 use Rattle.control.specs.Events.{startOf}

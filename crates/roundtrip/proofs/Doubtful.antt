@@ -21,7 +21,7 @@ use Rattle.channels.specs.declared.Entry.{Entry}
 use Rattle.channels.proofs.Cases.{by-test, clash, both}
 use Rattle.provisioning.specs.Provisioning.{entryAt, numbered}
 use Rattle.calls.specs.Calls.{holdsPair}
-use Rattle.effects.specs.declared.Table.{Table}
+use Rattle.table.specs.declared.Table.{Table}
 use Rattle.reload.specs.Reload.{channelLost, isLost, doubtsKept}
 use Rattle.safety.specs.Sound.{Sound}
 use Rattle.safety.proofs.Tables.{some-held}

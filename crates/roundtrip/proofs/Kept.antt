@@ -22,7 +22,7 @@ use Rattle.calls.specs.First.{place}
 use Rattle.calls.specs.Calls.{noSlot, named, onPair, isCall, holdsPair}
 use Rattle.calls.proofs.First.{placed, unplaced}
 use Rattle.calls.proofs.Calls.{call-named}
-use Rattle.effects.specs.declared.Table.{Table}
+use Rattle.table.specs.declared.Table.{Table}
 use Rattle.reload.specs.Reload.{phaseKept, isAt, callKept, holdKept, slotKept, allBelow}
 use Rattle.safety.specs.Tables.{slotAt, HasCall}
 use Rattle.safety.specs.Sound.{PhaseSound, in-N3, in-N6, in-N9, in-N10, by-host, by-timer, Sound}

@@ -11,7 +11,7 @@ use mathlib.Core.Bool.{true}
 use mathlib.Core.List.{List, []}
 use lib.ListN.{getD}
 use Rattle.provisioning.specs.Provisioning.{provision}
-use Rattle.effects.specs.declared.Table.{Table}
+use Rattle.table.specs.declared.Table.{Table}
 use Rattle.outcome.specs.declared.Started.{Started}
 use Rattle.control.specs.Events.{startOf}
 use Rattle.control.specs.Happens.{Event, happens}

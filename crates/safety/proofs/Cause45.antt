@@ -36,18 +36,19 @@ use Rattle.replies.specs.Reply.{replyOctets}
 use Rattle.setup.specs.declared.Admission.{Admission}
 use Rattle.setup.specs.declared.Admission.the-variants.{Admitted, Refused}
 use Rattle.setup.specs.Setup.{absent, broken, foundIn, chosen, someNamed, isMultipoint, allowedIn, admission}
+use Rattle.verdicts.specs.declared.Verdict.{Verdict}
+use Rattle.verdicts.specs.Verdict.{silent, ended}
+use Rattle.verdicts.specs.Expiry.{released, expire, waiting}
 use Rattle.judging.specs.declared.Class.{Class}
 use Rattle.judging.specs.declared.Class.the-variants as class
 use Rattle.judging.specs.declared.Kind.{Kind}
 use Rattle.judging.specs.declared.Kind.the-variants as kind
-use Rattle.judging.specs.declared.Verdict.{Verdict}
-use Rattle.judging.specs.Verdict.{silent, ended}
 use Rattle.judging.specs.Class.{classify}
-use Rattle.judging.specs.Judge.{releaseComplete, releaseReply, statusVerdict, contentsVerdict, judgedAs, statusReply, noCallReply, released, expire, waiting}
+use Rattle.judging.specs.Judge.{releaseComplete, releaseReply, statusVerdict, contentsVerdict, judgedAs, statusReply, noCallReply}
 use Rattle.effects.specs.declared.Effect.{Effect}
-use Rattle.effects.specs.declared.Table.{Table}
 use Rattle.effects.specs.Restart.{pairRestart, restartEffect}
-use Rattle.effects.specs.Effects.{onHold, globalEffect, fireHold, fired, noRoom}
+use Rattle.table.specs.declared.Table.{Table}
+use Rattle.table.specs.Effects.{onHold, globalEffect, fireHold, fired, noRoom}
 use Rattle.outcome.specs.Refusals.{hostCauses}
 use Rattle.outcome.proofs.Causes.{member-passes}
 use Rattle.commands.specs.Commands.{connected, cleared}
@@ -175,13 +176,13 @@ no-call-not-45 m h =
 abbrev pub EffectNot45 : Effect → Type 0
 EffectNot45 x = Not45 (x .reply)
 
-pair-restart-not-45 : (t : Table) (flag : Bool) (r : ConnectionRead) → EffectNot45 (pairRestart t flag r)
+pair-restart-not-45 : (t : Table) (flag : Bool) (r : ConnectionRead) → EffectNot45 (pairRestart (t .slots) (t .pool) flag r)
 pair-restart-not-45 t flag connectionRead.Absent = refl
 pair-restart-not-45 t flag connectionRead.Unreadable = refl
 pair-restart-not-45 t flag (connectionRead.Pair p v) =
     by-cond EffectNot45 (knownVpci (t .pool) p) _ _ (by-cond EffectNot45 (ltb v 32 || permanent (t .pool) p v) _ _ refl refl) refl
 
-restart-not-45 : (t : Table) (flag : Bool) (r : RestartRead) (c : ConnectionRead) → EffectNot45 (restartEffect t flag r c)
+restart-not-45 : (t : Table) (flag : Bool) (r : RestartRead) (c : ConnectionRead) → EffectNot45 (restartEffect (t .slots) (t .pool) flag r c)
 restart-not-45 t flag restartRead.Absent c = refl
 restart-not-45 t flag restartRead.Unreadable c = refl
 restart-not-45 t flag (restartRead.Class k) c = by-cond EffectNot45 (eqb k 0x82) _ _ refl (pair-restart-not-45 t flag c)

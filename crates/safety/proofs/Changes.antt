@@ -26,11 +26,11 @@ use Rattle.calls.specs.declared.Found.the-variants.{At}
 use Rattle.calls.specs.First.{place}
 use Rattle.calls.specs.Calls.{moved, noSlot, isEmpty, isCall, emptied, unusedReference}
 use Rattle.header.specs.Header.{headerIn}
-use Rattle.judging.specs.declared.Fate.{Fate}
-use Rattle.judging.specs.declared.Fate.the-variants as fate
-use Rattle.effects.specs.declared.Table.{Table}
+use Rattle.verdicts.specs.declared.Fate.{Fate}
+use Rattle.verdicts.specs.declared.Fate.the-variants as fate
 use Rattle.effects.specs.Effect.{fated}
-use Rattle.effects.specs.Effects.{freePair}
+use Rattle.table.specs.declared.Table.{Table}
+use Rattle.table.specs.Effects.{freePair}
 use Rattle.control.specs.Happens.{Event, message, tick, connect, clear, offer}
 use Rattle.safety.specs.Tables.{HasCall, slotAt}
 use Rattle.safety.specs.FixedAnswers.{readingOf}

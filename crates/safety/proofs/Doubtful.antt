@@ -44,12 +44,12 @@ use Rattle.elements.specs.Values.{connectionIn, restartIn}
 use Rattle.setup.specs.declared.Admission.{Admission}
 use Rattle.setup.specs.declared.Admission.the-variants.{Admitted, Refused}
 use Rattle.setup.specs.Setup.{admission}
-use Rattle.judging.specs.declared.Fate.the-variants as fate
-use Rattle.judging.specs.Judge.{expire, lastT308}
+use Rattle.verdicts.specs.declared.Fate.the-variants as fate
+use Rattle.verdicts.specs.Expiry.{expire, lastT308}
 use Rattle.effects.specs.declared.Effect.{Effect}
-use Rattle.effects.specs.declared.Table.{Table}
 use Rattle.effects.specs.Restart.{pairRestart, restartEffect}
-use Rattle.effects.specs.Effects.{freePair, onPair, admitted, setupEffect, onNoCall, onHold, addressed, globalEffect, noRoom, fireHold, fired, tickEffect}
+use Rattle.table.specs.declared.Table.{Table}
+use Rattle.table.specs.Effects.{freePair, onPair, admitted, setupEffect, onNoCall, onHold, addressed, globalEffect, noRoom, fireHold, fired, tickEffect}
 use Rattle.outcome.specs.Refusals.{holdAt}
 use Rattle.commands.specs.Commands.{connected, cleared, offeredOn}
 use Rattle.control.specs.Events.{heardBy, offered}
@@ -73,13 +73,13 @@ module _ (t : Table) where
   abbrev DoubtedBy : Effect → Type 0
   DoubtedBy x = Doubted t (x .slots .all) (x .doubt)
 
-  pair-restart-doubted : (flag : Bool) (r : ConnectionRead) → DoubtedBy (pairRestart t flag r)
+  pair-restart-doubted : (flag : Bool) (r : ConnectionRead) → DoubtedBy (pairRestart (t .slots) (t .pool) flag r)
   pair-restart-doubted flag connectionRead.Absent = keeps
   pair-restart-doubted flag connectionRead.Unreadable = keeps
   pair-restart-doubted flag (connectionRead.Pair p v) =
       by-cond DoubtedBy (knownVpci (t .pool) p) _ _ (by-cond DoubtedBy (ltb v 32 || permanent (t .pool) p v) _ _ keeps (ends p v)) keeps
 
-  restart-doubted : (flag : Bool) (r : RestartRead) (c : ConnectionRead) → DoubtedBy (restartEffect t flag r c)
+  restart-doubted : (flag : Bool) (r : RestartRead) (c : ConnectionRead) → DoubtedBy (restartEffect (t .slots) (t .pool) flag r c)
   restart-doubted flag restartRead.Absent c = keeps
   restart-doubted flag restartRead.Unreadable c = keeps
   restart-doubted flag (restartRead.Class k) c = by-cond DoubtedBy (eqb k 0x82) _ _ ends-all (pair-restart-doubted flag c)

@@ -17,14 +17,15 @@ use Rattle.elements.specs.declared.CallStateRead.{CallStateRead}
 use Rattle.elements.specs.declared.CallStateRead.the-variants as callStateRead
 use Rattle.elements.specs.Values.{callStateIn}
 use Rattle.replies.specs.declared.Reply.the-variants as reply
+use Rattle.verdicts.specs.declared.Verdict.{Verdict}
+use Rattle.verdicts.specs.Verdict.{silent, ended}
+use Rattle.verdicts.specs.Expiry.{released, expire, waiting}
 use Rattle.judging.specs.declared.Class.{Class}
 use Rattle.judging.specs.declared.Class.the-variants as class
 use Rattle.judging.specs.declared.Kind.{Kind}
 use Rattle.judging.specs.declared.Kind.the-variants as kind
-use Rattle.judging.specs.declared.Verdict.{Verdict}
-use Rattle.judging.specs.Verdict.{silent, ended}
 use Rattle.judging.specs.Class.{inN6, inN6or9, inN10}
-use Rattle.judging.specs.Judge.{statusVerdict, contentsVerdict, judgedAs, judge, released, expire, waiting}
+use Rattle.judging.specs.Judge.{statusVerdict, contentsVerdict, judgedAs, judge}
 use Rattle.outcome.specs.Refusals.{hostCauses}
 use Rattle.safety.specs.Sound.{PhaseSound, in-N3, in-N6, in-N9, in-N10, by-host, by-timer}
 use Rattle.safety.proofs.Changes.{Turns, stays, goes, turns}

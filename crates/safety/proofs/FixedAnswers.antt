@@ -21,8 +21,8 @@ use Rattle.calls.specs.First.{place}
 use Rattle.calls.specs.Calls.{isEmpty}
 use Rattle.calls.specs.Timers.{someDue}
 use Rattle.header.specs.Header.{headOf}
-use Rattle.effects.specs.declared.Table.{Table}
-use Rattle.effects.specs.Effects.{freePair, tickEffect}
+use Rattle.table.specs.declared.Table.{Table}
+use Rattle.table.specs.Effects.{freePair, tickEffect}
 use Rattle.outcome.specs.Refusals.{orElse, commonRefusal, holdAt, bodyRefusal, slotRefusal, pairRefusal}
 use Rattle.outcome.specs.Outcome.{Outcome, sending, acceptedAs, effectReply, unlessRefused}
 use Rattle.commands.specs.Commands.{connected, cleared, offeredOn}

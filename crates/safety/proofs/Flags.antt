@@ -50,20 +50,21 @@ use Rattle.replies.specs.declared.Reply.the-variants as reply
 use Rattle.setup.specs.declared.Admission.{Admission}
 use Rattle.setup.specs.declared.Admission.the-variants.{Admitted, Refused}
 use Rattle.setup.specs.Setup.{admission}
+use Rattle.verdicts.specs.declared.Fate.{Fate}
+use Rattle.verdicts.specs.declared.Verdict.{Verdict}
+use Rattle.verdicts.specs.Verdict.{silent, turned, ended}
+use Rattle.verdicts.specs.Expiry.{released, expire, waiting}
 use Rattle.judging.specs.declared.Class.{Class}
 use Rattle.judging.specs.declared.Class.the-variants as class
 use Rattle.judging.specs.declared.Kind.{Kind}
 use Rattle.judging.specs.declared.Kind.the-variants as kind
-use Rattle.judging.specs.declared.Fate.{Fate}
-use Rattle.judging.specs.declared.Verdict.{Verdict}
-use Rattle.judging.specs.Verdict.{silent, turned, ended}
 use Rattle.judging.specs.Class.{inN6, inN6or9, inN10}
-use Rattle.judging.specs.Judge.{releaseReply, statusVerdict, contentsVerdict, judgedAs, judge, released, expire, waiting}
+use Rattle.judging.specs.Judge.{releaseReply, statusVerdict, contentsVerdict, judgedAs, judge}
 use Rattle.effects.specs.declared.Effect.{Effect}
-use Rattle.effects.specs.declared.Table.{Table}
-use Rattle.effects.specs.Effect.{slotCount, noFlags, flagsAt, onSlot, assigned, afterGone, isSet, doubting}
+use Rattle.effects.specs.Effect.{slotCount, noFlags, flagsAt, onSlot, assigned, afterGone, isSet, doubtOf, doubting}
 use Rattle.effects.specs.Restart.{pairRestart, restartEffect}
-use Rattle.effects.specs.Effects.{freePair, userCall, onPair, admitted, setupEffect, onNoCall, onHold, addressed, globalEffect, fireHold, fired, noRoom, doubtOf}
+use Rattle.table.specs.declared.Table.{Table}
+use Rattle.table.specs.Effects.{freePair, userCall, onPair, admitted, setupEffect, onNoCall, onHold, addressed, globalEffect, fireHold, fired, noRoom}
 use Rattle.outcome.specs.Refusals.{holdAt}
 use Rattle.outcome.specs.Outcome.{Outcome, stored, refusedWith}
 use Rattle.commands.specs.Commands.{connected, cleared, networkCall, offeredOn}
@@ -314,7 +315,7 @@ module _ (t : Table) (whole : HasSlots t) where
         hold-live Empty e = clash e refl
         hold-live (Live c) e = (c, refl)
 
-    pair-restart-exact : (flag : Bool) (r : ConnectionRead) → Exact (pairRestart t flag r)
+    pair-restart-exact : (flag : Bool) (r : ConnectionRead) → Exact (pairRestart (t .slots) (t .pool) flag r)
     pair-restart-exact flag connectionRead.Absent = quiet-exact _
     pair-restart-exact flag connectionRead.Unreadable = quiet-exact _
     pair-restart-exact flag (connectionRead.Pair p v) =
@@ -322,7 +323,7 @@ module _ (t : Table) (whole : HasSlots t) where
         (by-cond Exact (ltb v 32 || permanent (t .pool) p v) _ _ (quiet-exact _) (gone-exact (holdsPair p v) (pair-live p v) (End p v) flag (reply.RestartAcknowledge p v)))
         (quiet-exact _)
 
-    restart-exact : (flag : Bool) (r : RestartRead) (d : ConnectionRead) → Exact (restartEffect t flag r d)
+    restart-exact : (flag : Bool) (r : RestartRead) (d : ConnectionRead) → Exact (restartEffect (t .slots) (t .pool) flag r d)
     restart-exact flag restartRead.Absent d = quiet-exact _
     restart-exact flag restartRead.Unreadable d = quiet-exact _
     restart-exact flag (restartRead.Class k) d = by-cond Exact (eqb k 0x82) _ _ (gone-exact isLive live-live EndAll flag reply.RestartAcknowledgeAll) (pair-restart-exact flag d)

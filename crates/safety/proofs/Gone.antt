@@ -48,21 +48,22 @@ use Rattle.replies.specs.declared.Reply.the-variants as reply
 use Rattle.setup.specs.declared.Admission.{Admission}
 use Rattle.setup.specs.declared.Admission.the-variants.{Admitted, Refused}
 use Rattle.setup.specs.Setup.{admission}
+use Rattle.verdicts.specs.declared.Fate.{Fate}
+use Rattle.verdicts.specs.declared.Fate.the-variants as fate
+use Rattle.verdicts.specs.declared.Verdict.{Verdict}
+use Rattle.verdicts.specs.Verdict.{silent, turned, ended}
+use Rattle.verdicts.specs.Expiry.{released, expire, waiting}
 use Rattle.judging.specs.declared.Class.{Class}
 use Rattle.judging.specs.declared.Class.the-variants as class
 use Rattle.judging.specs.declared.Kind.{Kind}
 use Rattle.judging.specs.declared.Kind.the-variants as kind
-use Rattle.judging.specs.declared.Fate.{Fate}
-use Rattle.judging.specs.declared.Fate.the-variants as fate
-use Rattle.judging.specs.declared.Verdict.{Verdict}
-use Rattle.judging.specs.Verdict.{silent, turned, ended}
 use Rattle.judging.specs.Class.{classify}
-use Rattle.judging.specs.Judge.{statusVerdict, contentsVerdict, judgedAs, released, expire, waiting}
+use Rattle.judging.specs.Judge.{statusVerdict, contentsVerdict, judgedAs}
 use Rattle.effects.specs.declared.Effect.{Effect}
-use Rattle.effects.specs.declared.Table.{Table}
 use Rattle.effects.specs.Effect.{slotCount, onSlot, afterGone, isSet}
 use Rattle.effects.specs.Restart.{pairRestart, restartEffect}
-use Rattle.effects.specs.Effects.{freePair, onPair, admitted, setupEffect, onNoCall, onHold, addressed, globalEffect, fireHold, fired, tickEffect, noRoom}
+use Rattle.table.specs.declared.Table.{Table}
+use Rattle.table.specs.Effects.{freePair, onPair, admitted, setupEffect, onNoCall, onHold, addressed, globalEffect, fireHold, fired, tickEffect, noRoom}
 use Rattle.outcome.specs.Refusals.{holdAt}
 use Rattle.outcome.specs.Outcome.{Outcome, sending, refusedWith}
 use Rattle.commands.specs.Commands.{connected, cleared, offeredOn}
@@ -198,7 +199,7 @@ module _ (t : Table) (whole : HasSlots t) (i : ℕ) (c : Call) (live : HasCall t
 
   -- All effects.
 
-  pair-restart-kept : (flag : Bool) (r : ConnectionRead) → KeptOrGone (pairRestart t flag r)
+  pair-restart-kept : (flag : Bool) (r : ConnectionRead) → KeptOrGone (pairRestart (t .slots) (t .pool) flag r)
   pair-restart-kept flag connectionRead.Absent = inl still
   pair-restart-kept flag connectionRead.Unreadable = inl still
   pair-restart-kept flag (connectionRead.Pair p v) =
@@ -206,7 +207,7 @@ module _ (t : Table) (whole : HasSlots t) (i : ℕ) (c : Call) (live : HasCall t
       (by-cond KeptOrGone (ltb v 32 || permanent (t .pool) p v) _ _ (inl still) (gone-kept (holdsPair p v) (End p v) flag (reply.RestartAcknowledge p v)))
       (inl still)
 
-  restart-kept : (flag : Bool) (r : RestartRead) (d : ConnectionRead) → KeptOrGone (restartEffect t flag r d)
+  restart-kept : (flag : Bool) (r : RestartRead) (d : ConnectionRead) → KeptOrGone (restartEffect (t .slots) (t .pool) flag r d)
   restart-kept flag restartRead.Absent d = inl still
   restart-kept flag restartRead.Unreadable d = inl still
   restart-kept flag (restartRead.Class k) d = by-cond KeptOrGone (eqb k 0x82) _ _ (gone-kept isLive EndAll flag reply.RestartAcknowledgeAll) (pair-restart-kept flag d)

@@ -40,9 +40,9 @@ use Rattle.setup.specs.declared.Admission.{Admission}
 use Rattle.setup.specs.declared.Admission.the-variants.{Admitted, Refused}
 use Rattle.setup.specs.Setup.{admission}
 use Rattle.effects.specs.declared.Effect.{Effect}
-use Rattle.effects.specs.declared.Table.{Table}
 use Rattle.effects.specs.Restart.{pairRestart, restartEffect}
-use Rattle.effects.specs.Effects.{freePair, userCall, onPair, admitted, setupEffect, onNoCall, onHold, addressed, globalEffect, fireHold, fired, noRoom}
+use Rattle.table.specs.declared.Table.{Table}
+use Rattle.table.specs.Effects.{freePair, userCall, onPair, admitted, setupEffect, onNoCall, onHold, addressed, globalEffect, fireHold, fired, noRoom}
 use Rattle.outcome.specs.Refusals.{largestReading, holdAt, unclearable, causeRefusal, hostCauses}
 use Rattle.commands.specs.Commands.{connected, cleared, networkCall, offeredOn}
 use Rattle.control.specs.Events.{heardBy, offered}
@@ -79,7 +79,7 @@ module _ (t : Table) (e : Event) (order : t .last ≤ readingOf e) where
   still : Change t e (t .slots .all)
   still = same-change t e (later (t .last) (readingOf e) order)
 
-  pair-restart-change : (flag : Bool) (r : ConnectionRead) → Changes (pairRestart t flag r)
+  pair-restart-change : (flag : Bool) (r : ConnectionRead) → Changes (pairRestart (t .slots) (t .pool) flag r)
   pair-restart-change flag connectionRead.Absent = still
   pair-restart-change flag connectionRead.Unreadable = still
   pair-restart-change flag (connectionRead.Pair p v) =
@@ -87,7 +87,7 @@ module _ (t : Table) (e : Event) (order : t .last ≤ readingOf e) where
       (by-cond Changes (ltb v 32 || permanent (t .pool) p v) _ _ still (emptied-change t e (later (t .last) (readingOf e) order) (holdsPair p v)))
       still
 
-  restart-change : (flag : Bool) (r : RestartRead) (c : ConnectionRead) → Changes (restartEffect t flag r c)
+  restart-change : (flag : Bool) (r : RestartRead) (c : ConnectionRead) → Changes (restartEffect (t .slots) (t .pool) flag r c)
   restart-change flag restartRead.Absent c = still
   restart-change flag restartRead.Unreadable c = still
   restart-change flag (restartRead.Class k) c =

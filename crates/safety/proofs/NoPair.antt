@@ -30,9 +30,9 @@ use Rattle.setup.specs.declared.Admission.{Admission}
 use Rattle.setup.specs.declared.Admission.the-variants.{Admitted, Refused}
 use Rattle.setup.specs.Setup.{admission}
 use Rattle.effects.specs.declared.Effect.{Effect}
-use Rattle.effects.specs.declared.Table.{Table}
 use Rattle.effects.specs.Effect.{replying}
-use Rattle.effects.specs.Effects.{freePair, onPair, admitted, setupEffect, onNoCall, addressed, messageEffect, tickEffect}
+use Rattle.table.specs.declared.Table.{Table}
+use Rattle.table.specs.Effects.{freePair, onPair, admitted, setupEffect, onNoCall, addressed, messageEffect, tickEffect}
 use Rattle.outcome.specs.Refusals.{holdAt}
 use Rattle.outcome.specs.Outcome.{effectReply}
 use Rattle.commands.specs.Commands.{connected, cleared, offeredOn}

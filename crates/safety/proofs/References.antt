@@ -17,8 +17,8 @@ use Rattle.calls.specs.declared.Hold.the-variants.{Live}
 use Rattle.calls.specs.declared.Slot.{Slot}
 use Rattle.calls.specs.Calls.{noSlot, unusedReference}
 use Rattle.calls.proofs.Unused.{unused-found}
-use Rattle.effects.specs.declared.Table.{Table}
 use Rattle.effects.specs.Effect.{slotCount}
+use Rattle.table.specs.declared.Table.{Table}
 use Rattle.control.specs.Happens.{Event, message, tick, connect, clear, offer, happens, after}
 use Rattle.reload.specs.Reading.{twoAt, rest, callIn, begins, slotIn, behindSlot, slotsIn}
 use Rattle.reload.specs.Reload.{reloadIn}

@@ -28,9 +28,9 @@ use Rattle.calls.specs.declared.Found.the-variants.{Nothing, At}
 use Rattle.calls.specs.First.{place}
 use Rattle.calls.specs.Calls.{noSlot, isEmpty}
 use Rattle.setup.specs.Offer.{offerFits}
-use Rattle.effects.specs.declared.Table.{Table}
 use Rattle.effects.specs.Effect.{slotCount}
-use Rattle.effects.specs.Effects.{freePair}
+use Rattle.table.specs.declared.Table.{Table}
+use Rattle.table.specs.Effects.{freePair}
 use Rattle.outcome.specs.Refusals.{orElse, largestReading, commonRefusal, sizeRefusal, holdAt, notN3, unconnectable, inN12, unclearable, hostCauses, causeRefusal, bodyRefusal, slotRefusal, pairRefusal}
 use Rattle.control.specs.Happens.{Event, message, tick, connect, clear, offer}
 use Rattle.safety.specs.Tables.{HasSlots, slotAt}

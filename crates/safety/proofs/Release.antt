@@ -40,18 +40,19 @@ use Rattle.setup.specs.declared.Admission.{Admission}
 use Rattle.setup.specs.declared.Admission.the-variants.{Admitted, Refused}
 use Rattle.setup.specs.Setup.{admission}
 use Rattle.replies.specs.declared.Reply.the-variants as reply
+use Rattle.verdicts.specs.declared.Verdict.{Verdict}
+use Rattle.verdicts.specs.Verdict.{silent, ended}
+use Rattle.verdicts.specs.Expiry.{released, expire, waiting}
 use Rattle.judging.specs.declared.Class.{Class}
 use Rattle.judging.specs.declared.Class.the-variants as class
 use Rattle.judging.specs.declared.Kind.{Kind}
 use Rattle.judging.specs.declared.Kind.the-variants as kind
-use Rattle.judging.specs.declared.Verdict.{Verdict}
-use Rattle.judging.specs.Verdict.{silent, ended}
 use Rattle.judging.specs.Class.{classify}
-use Rattle.judging.specs.Judge.{releaseComplete, releaseReply, statusVerdict, contentsVerdict, judgedAs, released, expire, waiting}
+use Rattle.judging.specs.Judge.{releaseComplete, releaseReply, statusVerdict, contentsVerdict, judgedAs}
 use Rattle.effects.specs.declared.Effect.{Effect}
-use Rattle.effects.specs.declared.Table.{Table}
 use Rattle.effects.specs.Restart.{pairRestart, restartEffect}
-use Rattle.effects.specs.Effects.{freePair, onPair, admitted, setupEffect, onNoCall, onHold, addressed, globalEffect, fireHold, fired, tickEffect, noRoom}
+use Rattle.table.specs.declared.Table.{Table}
+use Rattle.table.specs.Effects.{freePair, onPair, admitted, setupEffect, onNoCall, onHold, addressed, globalEffect, fireHold, fired, tickEffect, noRoom}
 use Rattle.outcome.specs.Refusals.{holdAt}
 use Rattle.outcome.specs.Outcome.{Outcome, effectReply, refusedWith}
 use Rattle.commands.specs.Commands.{connected, cleared, offeredOn}
@@ -119,7 +120,7 @@ abbrev Unnoticed : Effect → Type 0
 Unnoticed x = kindOf (x .reply) ≡ 0x4D → x .notice ≡ 0
 
 module _ (t : Table) where
-  pair-restart-unnoticed : (flag : Bool) (r : ConnectionRead) → Unnoticed (pairRestart t flag r)
+  pair-restart-unnoticed : (flag : Bool) (r : ConnectionRead) → Unnoticed (pairRestart (t .slots) (t .pool) flag r)
   pair-restart-unnoticed flag connectionRead.Absent = λ e. refl
   pair-restart-unnoticed flag connectionRead.Unreadable = λ e. refl
   pair-restart-unnoticed flag (connectionRead.Pair p v) =
@@ -127,7 +128,7 @@ module _ (t : Table) where
       (by-cond Unnoticed (ltb v 32 || permanent (t .pool) p v) _ _ (λ e. refl) (λ e. absurd (omega arith)))
       (λ e. refl)
 
-  restart-unnoticed : (flag : Bool) (r : RestartRead) (c : ConnectionRead) → Unnoticed (restartEffect t flag r c)
+  restart-unnoticed : (flag : Bool) (r : RestartRead) (c : ConnectionRead) → Unnoticed (restartEffect (t .slots) (t .pool) flag r c)
   restart-unnoticed flag restartRead.Absent c = λ e. refl
   restart-unnoticed flag restartRead.Unreadable c = λ e. refl
   restart-unnoticed flag (restartRead.Class k) c = by-cond Unnoticed (eqb k 0x82) _ _ (λ e. absurd (omega arith)) (pair-restart-unnoticed flag c)

@@ -33,8 +33,8 @@ use Rattle.calls.specs.declared.Found.{Found}
 use Rattle.calls.specs.declared.Found.the-variants.{Nothing, At}
 use Rattle.calls.specs.First.{place}
 use Rattle.calls.specs.Calls.{isCall, holdsPair}
-use Rattle.effects.specs.declared.Table.{Table}
 use Rattle.effects.specs.Effect.{slotCount}
+use Rattle.table.specs.declared.Table.{Table}
 use Rattle.outcome.specs.Refusals.{largestReading, hostCauses}
 use Rattle.saved.specs.Form.{formOf}
 use Rattle.reload.specs.Reading.{rangeNumbers, pairNumbers, rest, behindSlot, slotsIn, tableIn, doubtNumbers}

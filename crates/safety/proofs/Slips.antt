@@ -40,13 +40,14 @@ use Rattle.elements.specs.Values.{callStateIn}
 use Rattle.replies.specs.declared.Reply.{Reply}
 use Rattle.replies.specs.declared.Reply.the-variants as reply
 use Rattle.replies.specs.Reply.{kindOf, replyOctets}
-use Rattle.judging.specs.declared.Verdict.{Verdict}
-use Rattle.judging.specs.Verdict.{silent}
-use Rattle.judging.specs.Judge.{statusVerdict, judge, statusReply, clearing}
+use Rattle.verdicts.specs.declared.Verdict.{Verdict}
+use Rattle.verdicts.specs.Verdict.{silent}
+use Rattle.verdicts.specs.Expiry.{clearing}
+use Rattle.judging.specs.Judge.{statusVerdict, judge, statusReply}
 use Rattle.effects.specs.declared.Effect.{Effect}
-use Rattle.effects.specs.declared.Table.{Table}
 use Rattle.effects.specs.Effect.{quiet}
-use Rattle.effects.specs.Effects.{onNoCall, onHold, addressed, globalEffect, messageEffect}
+use Rattle.table.specs.declared.Table.{Table}
+use Rattle.table.specs.Effects.{onNoCall, onHold, addressed, globalEffect, messageEffect}
 use Rattle.outcome.specs.Refusals.{holdAt}
 use Rattle.outcome.specs.Outcome.{Outcome, acceptedAs, refusedWith, unlessRefused}
 use Rattle.commands.specs.Commands.{cleared}

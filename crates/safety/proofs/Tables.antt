@@ -28,8 +28,8 @@ use Rattle.calls.specs.First.{place}
 use Rattle.calls.specs.Calls.{noSlot, isEmpty, emptyHold, onPair, holdsPair, heldOf, named, isCall}
 use Rattle.calls.proofs.First.{unplaced, some-nothing}
 use Rattle.calls.proofs.Calls.{held-holds, call-named}
-use Rattle.effects.specs.declared.Table.{Table}
-use Rattle.effects.specs.Effects.{freePair}
+use Rattle.table.specs.declared.Table.{Table}
+use Rattle.table.specs.Effects.{freePair}
 use Rattle.safety.specs.Tables.{HasSlots, slotAt, HasCall, NoneEmpty, OnPair, Holds, InDoubt, NoneFree}
 use Rattle.safety.specs.NoPair.{NoSuchCall}
 use Rattle.safety.proofs.Lists.{some-found, passes-within}

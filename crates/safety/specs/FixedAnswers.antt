@@ -23,8 +23,8 @@ use Rattle.calls.specs.declared.Phase.the-variants.{N3, N12}
 use Rattle.calls.specs.declared.Call.{Call}
 use Rattle.calls.specs.Calls.{noSlot}
 use Rattle.setup.specs.Offer.{offerFits}
-use Rattle.effects.specs.declared.Table.{Table}
 use Rattle.effects.specs.Effect.{slotCount}
+use Rattle.table.specs.declared.Table.{Table}
 use Rattle.outcome.specs.Refusals.{hostCauses}
 use Rattle.outcome.specs.Outcome.{Outcome}
 use Rattle.control.specs.Events.{startOf}

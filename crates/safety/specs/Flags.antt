@@ -14,8 +14,8 @@ use Rattle.calls.specs.declared.Phase.the-variants.{N10}
 use Rattle.calls.specs.declared.Call.{Call}
 use Rattle.calls.specs.declared.Flags.{Flags}
 use Rattle.calls.specs.Calls.{moved, noSlot}
-use Rattle.effects.specs.declared.Table.{Table}
 use Rattle.effects.specs.Effect.{slotCount}
+use Rattle.table.specs.declared.Table.{Table}
 use Rattle.control.specs.Happens.{Event, happens}
 use Rattle.safety.specs.Tables.{slotAt, HasCall}
 

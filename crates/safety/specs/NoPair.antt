@@ -21,8 +21,8 @@ use Rattle.replies.specs.declared.Reply.the-variants.{ReleaseCompleteWith}
 use Rattle.replies.specs.Reply.{replyOctets}
 use Rattle.setup.specs.declared.Admission.the-variants.{Admitted}
 use Rattle.setup.specs.Setup.{admission}
-use Rattle.judging.specs.Verdict.{plainCause}
-use Rattle.effects.specs.declared.Table.{Table}
+use Rattle.verdicts.specs.Verdict.{plainCause}
+use Rattle.table.specs.declared.Table.{Table}
 use Rattle.control.specs.Events.{heardBy, messageOf}
 use Rattle.control.specs.Happens.{Event, message, happens}
 use Rattle.safety.specs.Tables.{slotAt, HasCall, NoneFree}

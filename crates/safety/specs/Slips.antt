@@ -20,9 +20,9 @@ use Rattle.header.specs.declared.Header.{Header}
 use Rattle.header.specs.declared.Head.the-variants.{Is}
 use Rattle.header.specs.Header.{headerIn, headOf}
 use Rattle.setup.specs.Setup.{admission}
-use Rattle.judging.specs.Judge.{clearing}
-use Rattle.effects.specs.declared.Table.{Table}
-use Rattle.effects.specs.Effects.{freePair, userCall, setupEffect, messageEffect}
+use Rattle.verdicts.specs.Expiry.{clearing}
+use Rattle.table.specs.declared.Table.{Table}
+use Rattle.table.specs.Effects.{freePair, userCall, setupEffect, messageEffect}
 use Rattle.outcome.specs.Outcome.{Outcome}
 use Rattle.commands.specs.Commands.{networkCall}
 use Rattle.control.specs.Events.{messageOf, clearOf}

@@ -15,8 +15,8 @@ use Rattle.calls.specs.declared.Call.{Call}
 use Rattle.calls.specs.declared.Hold.the-variants.{Live}
 use Rattle.calls.specs.declared.Slot.{Slot}
 use Rattle.calls.specs.Calls.{noSlot}
-use Rattle.effects.specs.declared.Table.{Table}
 use Rattle.effects.specs.Effect.{slotCount}
+use Rattle.table.specs.declared.Table.{Table}
 
 -- "The table has the 32 slots of calls"
 abbrev pub HasSlots : Table → Type 0

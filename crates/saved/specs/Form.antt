@@ -23,7 +23,7 @@ use Rattle.calls.specs.declared.Call.{Call}
 use Rattle.calls.specs.declared.Hold.{Hold}
 use Rattle.calls.specs.declared.Hold.the-variants.{Empty, Live}
 use Rattle.calls.specs.declared.Slot.{Slot}
-use Rattle.effects.specs.declared.Table.{Table}
+use Rattle.table.specs.declared.Table.{Table}
 
 abbrev pub two : ℕ → List ℕ
 two n = high n ∷ low n ∷ []

@@ -11,7 +11,7 @@ use channels::Channel;
 use channels::Doubts;
 use channels::Pool;
 use channels::Range;
-use effects::Table;
+use table::Table;
 ghost use mathlib.Core.Path.{_≡_};
 ghost use mathlib.Core.Bool.{cond};
 ghost use mathlib.Core.List.{_∷_};

@@ -2,7 +2,7 @@
 -- Assumes nothing.
 use borrow.Author.Needs.{needs}
 use mathlib.Core.Path.{ap, _∙_}
-use Rattle.judging.specs.Verdict.{answered, ended}
+use Rattle.verdicts.specs.Verdict.{answered, ended}
 use Rattle.judging.proofs.judge_contents.Statement.{statement}
 use Rattle.judging.proofs.judge_contents.Tie as tie
 
