@@ -1,9 +1,9 @@
--- `saved::put_channel` meets its contract: two numbers, or nothing. Assumes nothing.
+-- `fields::put_channel` meets its contract: two numbers, or nothing. Assumes nothing.
 use borrow.Author.Needs.{needs}
 use native.Mathlib.Omega.{arith}
 use Rattle.octets.proofs.Stores.{chain, wrote-none}
-use Rattle.saved.proofs.put_channel.Statement.{statement}
-use Rattle.saved.proofs.put_channel.Tie as tie
+use Rattle.fields.proofs.put_channel.Statement.{statement}
+use Rattle.fields.proofs.put_channel.Tie as tie
 
 enum-told : tie.Need-enum-told
 enum-told c = search needs

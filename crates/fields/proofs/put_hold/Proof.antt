@@ -1,11 +1,11 @@
--- `saved::put_hold` meets its contract: the contents are counted once they are written. Assumes nothing.
+-- `fields::put_hold` meets its contract: the contents are counted once they are written. Assumes nothing.
 use borrow.Author.Needs.{needs}
 use native.Mathlib.Omega.{arith}
 use lib.ListN.{length-take}
 use Rattle.octets.proofs.Stores.{wrote-none}
-use Rattle.saved.proofs.Joined.{filed}
-use Rattle.saved.proofs.put_hold.Statement.{statement}
-use Rattle.saved.proofs.put_hold.Tie as tie
+use Rattle.fields.proofs.Filed.{filed}
+use Rattle.fields.proofs.put_hold.Statement.{statement}
+use Rattle.fields.proofs.put_hold.Tie as tie
 
 enum-told : tie.Need-enum-told
 enum-told c = search needs

@@ -1,7 +1,7 @@
--- `saved::put_reference` meets its contract: the top bit says the side. Assumes nothing.
+-- `fields::put_reference` meets its contract: the top bit says the side. Assumes nothing.
 use borrow.Author.Needs.{needs}
-use Rattle.saved.proofs.put_reference.Statement.{statement}
-use Rattle.saved.proofs.put_reference.Tie as tie
+use Rattle.fields.proofs.put_reference.Statement.{statement}
+use Rattle.fields.proofs.put_reference.Tie as tie
 
 cast-top : tie.Need-cast-top
 cast-top c = search needs

@@ -1,10 +1,10 @@
--- `saved::put_range` meets its contract: three numbers, or nothing. Assumes nothing.
+-- `fields::put_range` meets its contract: three numbers, or nothing. Assumes nothing.
 use borrow.Author.Needs.{needs}
 use native.Mathlib.Omega.{arith}
 use borrow.Author.Tests.{le-leb, lt-leb}
 use Rattle.octets.proofs.Stores.{chain, wrote-none}
-use Rattle.saved.proofs.put_range.Statement.{statement}
-use Rattle.saved.proofs.put_range.Tie as tie
+use Rattle.fields.proofs.put_range.Statement.{statement}
+use Rattle.fields.proofs.put_range.Tie as tie
 
 returns : tie.Need-returns
 returns c = (rw (lt-leb _ _ (c .if1 .taken)) (wrote-none _ _), omega arith)

@@ -1,9 +1,9 @@
--- `saved::put_call` meets its contract: its parts one behind the other. Assumes nothing.
+-- `fields::put_call` meets its contract: its parts one behind the other. Assumes nothing.
 use borrow.Author.Needs.{needs}
 use native.Mathlib.Omega.{arith}
 use Rattle.octets.proofs.Stores.{chain}
-use Rattle.saved.proofs.put_call.Statement.{statement}
-use Rattle.saved.proofs.put_call.Tie as tie
+use Rattle.fields.proofs.put_call.Statement.{statement}
+use Rattle.fields.proofs.put_call.Tie as tie
 
 slice-aggregate-put : tie.Need-slice-aggregate-put
 slice-aggregate-put c = search needs

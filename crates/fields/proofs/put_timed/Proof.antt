@@ -1,8 +1,8 @@
--- `saved::put_timed` meets its contract: the state, then the deadline. Assumes nothing.
+-- `fields::put_timed` meets its contract: the state, then the deadline. Assumes nothing.
 use borrow.Author.Needs.{needs}
 use Rattle.octets.proofs.Stores.{chain}
-use Rattle.saved.proofs.put_timed.Statement.{statement}
-use Rattle.saved.proofs.put_timed.Tie as tie
+use Rattle.fields.proofs.put_timed.Statement.{statement}
+use Rattle.fields.proofs.put_timed.Tie as tie
 
 slice-aggregate-put : tie.Need-slice-aggregate-put
 slice-aggregate-put c = search needs

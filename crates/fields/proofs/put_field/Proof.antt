@@ -1,8 +1,8 @@
--- `saved::put_field` meets its contract: tag and length, then the contents. Assumes nothing.
+-- `fields::put_field` meets its contract: tag and length, then the contents. Assumes nothing.
 use borrow.Author.Needs.{needs}
 use Rattle.octets.proofs.Stores.{chain}
-use Rattle.saved.proofs.put_field.Statement.{statement}
-use Rattle.saved.proofs.put_field.Tie as tie
+use Rattle.fields.proofs.put_field.Statement.{statement}
+use Rattle.fields.proofs.put_field.Tie as tie
 
 cast-high : tie.Need-cast-high
 cast-high c = search needs

@@ -1,9 +1,9 @@
--- `saved::put_phase` meets its contract: each state in its own way. Assumes nothing.
+-- `fields::put_phase` meets its contract: each state in its own way. Assumes nothing.
 use borrow.Author.Needs.{needs}
 use native.Mathlib.Omega.{arith}
 use Rattle.octets.proofs.Stores.{chain}
-use Rattle.saved.proofs.put_phase.Statement.{statement}
-use Rattle.saved.proofs.put_phase.Tie as tie
+use Rattle.fields.proofs.put_phase.Statement.{statement}
+use Rattle.fields.proofs.put_phase.Tie as tie
 
 enum-told : tie.Need-enum-told
 enum-told c = search needs
