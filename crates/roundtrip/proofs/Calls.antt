@@ -21,7 +21,7 @@ use Rattle.calls.specs.declared.Hold.the-variants.{Empty, Live}
 use Rattle.calls.specs.declared.Slot.{Slot}
 use Rattle.fields.specs.Fields.{field, phaseOctets, callOctets, holdField}
 use Rattle.saved.specs.Form.{callFields}
-use Rattle.reload.specs.Reading.{phaseIn, callIn, begins, slotsIn}
+use Rattle.reading.specs.Reading.{phaseIn, callIn, begins, slotsIn}
 use Rattle.roundtrip.proofs.Numbers.{eight-back}
 use Rattle.roundtrip.proofs.Fields.{rest-back}
 

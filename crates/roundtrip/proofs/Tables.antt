@@ -15,7 +15,7 @@ use Rattle.calls.specs.declared.Slots.{Slots}
 use Rattle.effects.specs.declared.Table.{Table}
 use Rattle.fields.specs.Fields.{two, eight, field}
 use Rattle.saved.specs.Form.{joined, callFields, formOf}
-use Rattle.reload.specs.Reading.{eightAt, rest, rangeNumbers, pairNumbers, listIn, slotsIn, tableIn, entriesIn}
+use Rattle.reading.specs.Reading.{eightAt, rest, rangeNumbers, pairNumbers, listIn, slotsIn, tableIn, entriesIn}
 use Rattle.roundtrip.specs.Roundtrip.{Provisioned}
 use Rattle.roundtrip.proofs.Numbers.{eight-back}
 use Rattle.roundtrip.proofs.Fields.{joined-two, rest-back, list-back}

@@ -1,14 +1,14 @@
--- `reload::behind` meets its contract: what is left of what is left.
+-- `reading::behind` meets its contract: what is left of what is left.
 -- Assumes nothing.
 use native.Mathlib.Omega.{arith}
 use Prim.Native.Nat.{ℕ, _+_}
 use mathlib.Core.Path.{_≡_, ap}
 use lib.ListN.{drop}
 use lib.Seq.{drop-drop}
-use Rattle.reload.specs.Reading.{twoAt}
+use Rattle.reading.specs.Reading.{twoAt}
 use borrow.Author.Needs.{needs}
-use Rattle.reload.proofs.behind.Statement.{statement}
-use Rattle.reload.proofs.behind.Tie as tie
+use Rattle.reading.proofs.behind.Statement.{statement}
+use Rattle.reading.proofs.behind.Tie as tie
 
 two-in-requires : tie.Need-two-in-requires
 two-in-requires c κs = search needs

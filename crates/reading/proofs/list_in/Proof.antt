@@ -1,14 +1,14 @@
--- `reload::list_in` meets its contract. The loop's invariant: the numbers passed are in the array.
+-- `reading::list_in` meets its contract. The loop's invariant: the numbers passed are in the array.
 -- Assumes nothing.
 use native.Mathlib.Omega.{arith}
 use Prim.Native.Nat.{ℕ, _-_, _/_, _≤_}
 use mathlib.Core.Path.{_≡_, ap, _∙_}
 use lib.ListN.{length, drop}
-use Rattle.reload.specs.Reading.{least}
-use Rattle.reload.proofs.Walk.{Listed, listed-none, listed-more, listed-list}
+use Rattle.reading.specs.Reading.{least}
+use Rattle.reading.proofs.Walk.{Listed, listed-none, listed-more, listed-list}
 use borrow.Author.Needs.{needs}
-use Rattle.reload.proofs.list_in.Statement.{statement}
-use Rattle.reload.proofs.list_in.Tie as tie
+use Rattle.reading.proofs.list_in.Statement.{statement}
+use Rattle.reading.proofs.list_in.Tie as tie
 
 abbrev Inv-loop : tie.InvT-loop
 Inv-loop form at most numbers₀ k₀ numbers k = (k ≤ 128) × (at ≤ 4294967296) × (most ≤ 128) × (length numbers ≡ 128) × Listed (drop at form) numbers k

@@ -1,12 +1,12 @@
--- `reload::provision_of` meets its contract: by the two lists.
+-- `reading::provision_of` meets its contract: by the two lists.
 -- Assumes nothing.
 use native.Mathlib.Omega.{arith}
 use borrow.Author.Needs.{needs}
 use mathlib.Core.Path.{ap, _∙_}
-use Rattle.reload.specs.Reading.{listIn, rangeNumbers, pairNumbers}
-use Rattle.reload.proofs.Walk.{counted, provision-same}
-use Rattle.reload.proofs.provision_of.Statement.{statement}
-use Rattle.reload.proofs.provision_of.Tie as tie
+use Rattle.reading.specs.Reading.{listIn, rangeNumbers, pairNumbers}
+use Rattle.reading.proofs.Walk.{counted, provision-same}
+use Rattle.reading.proofs.provision_of.Statement.{statement}
+use Rattle.reading.proofs.provision_of.Tie as tie
 
 list-in-requires : tie.Need-list-in-requires
 list-in-requires c κs = search needs

@@ -1,13 +1,13 @@
--- `reload::slots_in` meets its contract. The loop's invariant: the slots passed are in the array, and the next field is at its place.
+-- `reading::slots_in` meets its contract. The loop's invariant: the slots passed are in the array, and the next field is at its place.
 -- Assumes nothing.
 use native.Mathlib.Omega.{arith}
 use Prim.Native.Nat.{_+_, _*_, _-_, _≤_}
 use mathlib.Core.Path.{_≡_}
 use lib.ListN.{length}
-use Rattle.reload.proofs.Walk.{Walked, walked-none, walked-more, walked-all}
+use Rattle.reading.proofs.Walk.{Walked, walked-none, walked-more, walked-all}
 use borrow.Author.Needs.{needs}
-use Rattle.reload.proofs.slots_in.Statement.{statement}
-use Rattle.reload.proofs.slots_in.Tie as tie
+use Rattle.reading.proofs.slots_in.Statement.{statement}
+use Rattle.reading.proofs.slots_in.Tie as tie
 
 abbrev Inv-loop : tie.InvT-loop
 Inv-loop form at all₀ next₀ i₀ all next i = (i ≤ 32) × (next ≤ 262152 + i * 65538) × (length all ≡ 32) × Walked form at 32 all next i

@@ -1,10 +1,10 @@
--- `reload::step_in` meets its contract: by whose the field is.
+-- `reading::step_in` meets its contract: by whose the field is.
 -- Assumes nothing.
 use native.Mathlib.Omega.{arith}
 use mathlib.Core.Path.{refl, sym, _∙_}
 use borrow.Author.Needs.{needs}
-use Rattle.reload.proofs.step_in.Statement.{statement}
-use Rattle.reload.proofs.step_in.Tie as tie
+use Rattle.reading.proofs.step_in.Statement.{statement}
+use Rattle.reading.proofs.step_in.Tie as tie
 
 is-begun-requires : tie.Need-is-begun-requires
 is-begun-requires c κs = search needs

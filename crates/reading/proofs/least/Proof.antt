@@ -1,9 +1,9 @@
--- `reload::least` meets its contract: by its test.
+-- `reading::least` meets its contract: by its test.
 -- Assumes nothing.
 use native.Mathlib.Omega.{arith}
 use borrow.Author.Tests.{lt-ltb, le-ltb}
-use Rattle.reload.proofs.least.Statement.{statement}
-use Rattle.reload.proofs.least.Tie as tie
+use Rattle.reading.proofs.least.Statement.{statement}
+use Rattle.reading.proofs.least.Tie as tie
 
 returns : tie.Need-returns
 returns c = (rw (lt-ltb _ _ (c .if1 .taken)), omega arith)

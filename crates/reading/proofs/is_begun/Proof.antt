@@ -1,12 +1,12 @@
--- `reload::is_begun` meets its contract: past the end there is no field.
+-- `reading::is_begun` meets its contract: past the end there is no field.
 -- Assumes nothing.
 use native.Mathlib.Omega.{arith}
 use Prim.Native.Nat.{_<_}
 use lib.ListN.{length, drop, length-drop, drop-of-length-le}
 use borrow.Author.Tests.{lt-ltb}
 use borrow.Author.Needs.{needs}
-use Rattle.reload.proofs.is_begun.Statement.{statement}
-use Rattle.reload.proofs.is_begun.Tie as tie
+use Rattle.reading.proofs.is_begun.Statement.{statement}
+use Rattle.reading.proofs.is_begun.Tie as tie
 
 returns : tie.Need-returns
 returns c = let a = c .before .before .args in rw (drop-of-length-le (a .form .now) {i = a .at} (c .if1 .taken))

@@ -1,10 +1,10 @@
--- `reload::octet_in` meets its contract: an octet of what is left is an octet of the form.
+-- `reading::octet_in` meets its contract: an octet of what is left is an octet of the form.
 -- Assumes nothing.
 use mathlib.Core.Path.{sym, _∙_}
 use lib.Seq.{getD-drop}
 use borrow.Author.Needs.{needs}
-use Rattle.reload.proofs.octet_in.Statement.{statement}
-use Rattle.reload.proofs.octet_in.Tie as tie
+use Rattle.reading.proofs.octet_in.Statement.{statement}
+use Rattle.reading.proofs.octet_in.Tie as tie
 
 add-octet-at : tie.Need-add-octet-at
 add-octet-at c = search needs

@@ -1,4 +1,4 @@
--- `reload::doubts_in` meets its contract. The loop's invariant: the entries passed are in the array.
+-- `reading::doubts_in` meets its contract. The loop's invariant: the entries passed are in the array.
 -- Assumes nothing.
 use native.Mathlib.Omega.{arith}
 use Prim.Native.Nat.{_-_, _≤_}
@@ -6,11 +6,11 @@ use mathlib.Core.Path.{_≡_, ap, _∙_}
 use lib.ListN.{length, take}
 use Rattle.channels.specs.Doubts.{doubtsOf}
 use Rattle.provisioning.specs.Provisioning.{entryAt}
-use Rattle.reload.specs.Reading.{entriesIn}
-use Rattle.reload.proofs.Walk.{counted, Filled, filled-none, filled-more, filled-all}
+use Rattle.reading.specs.Reading.{entriesIn}
+use Rattle.reading.proofs.Walk.{counted, Filled, filled-none, filled-more, filled-all}
 use borrow.Author.Needs.{needs}
-use Rattle.reload.proofs.doubts_in.Statement.{statement}
-use Rattle.reload.proofs.doubts_in.Tie as tie
+use Rattle.reading.proofs.doubts_in.Statement.{statement}
+use Rattle.reading.proofs.doubts_in.Tie as tie
 
 abbrev Inv-loop : tie.InvT-loop
 Inv-loop form at n numbers entries₀ k₀ entries k =

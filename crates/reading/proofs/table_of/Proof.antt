@@ -1,11 +1,11 @@
--- `reload::table_of` meets its contract: by its parts.
+-- `reading::table_of` meets its contract: by its parts.
 -- Assumes nothing.
 use mathlib.Core.Path.{sym, ap, _∙_}
-use Rattle.reload.specs.Reading.{rest}
-use Rattle.reload.proofs.Walk.{table-parts}
+use Rattle.reading.specs.Reading.{rest}
+use Rattle.reading.proofs.Walk.{table-parts}
 use borrow.Author.Needs.{needs}
-use Rattle.reload.proofs.table_of.Statement.{statement}
-use Rattle.reload.proofs.table_of.Tie as tie
+use Rattle.reading.proofs.table_of.Statement.{statement}
+use Rattle.reading.proofs.table_of.Tie as tie
 
 behind-requires : tie.Need-behind-requires
 behind-requires c κs = search needs

@@ -1,10 +1,10 @@
--- `reload::phase_in` meets its contract: by the number of the state.
+-- `reading::phase_in` meets its contract: by the number of the state.
 -- Assumes nothing.
 use mathlib.Core.Path.{sym, _∙_}
 use borrow.Author.Tests.{ne-eqb}
 use borrow.Author.Needs.{needs}
-use Rattle.reload.proofs.phase_in.Statement.{statement}
-use Rattle.reload.proofs.phase_in.Tie as tie
+use Rattle.reading.proofs.phase_in.Statement.{statement}
+use Rattle.reading.proofs.phase_in.Tie as tie
 
 octet-in-requires : tie.Need-octet-in-requires
 octet-in-requires c κs = search needs
