@@ -14,7 +14,7 @@ use Rattle.outcome.specs.declared.Started.{Started}
 use Rattle.outcome.specs.Refusals.{largestReading}
 use Rattle.control.specs.Events.{startOf}
 use Rattle.saved.specs.Form.{formOf}
-use Rattle.reload.specs.Reading.{rangeNumbers, pairNumbers, tableIn}
+use Rattle.reading.specs.Reading.{rangeNumbers, pairNumbers, tableIn}
 use Rattle.reload.specs.Reload.{slotKept, allBelow, doubtsKept, reloadIn}
 
 abbrev answer : Bool → Bool → Bool → Bool → Bool → Table → Started

@@ -1,133 +1,22 @@
--- Laws for the loops of the reader.
---   Listed, listed-none, listed-more, listed-list     numbers read into an array
---   Walked, walked-none, walked-more, walked-all      slots read into an array, their fields one behind the other
---   Filled, filled-none, filled-more, filled-all      an array filled with the values of a function
---   provision-same, table-parts         the whole table
+-- Laws for the loops of the rules.
 --   tidy-here, tidy-not-here, tidy-end  pairs in doubt that ascend
 --   none-below, below-more, not-below   each number below another
 -- Assumes nothing.
-use Prim.Native.Nat.{ℕ, zero, suc, _+_, _*_, _-_, _/_, _≤_, _<_}
+use Prim.Native.Nat.{ℕ, zero, suc, _+_, _<_}
 use mathlib.Core.Path.{_≡_, refl, sym, ap, _∙_}
 use mathlib.Core.Bool.{Bool, true, false, and-false, _||_}
-use mathlib.Core.Logic.{_≢_}
-use mathlib.Core.List.{List, [], _∷_, _++_, append-assoc, append-nil}
+use mathlib.Core.List.{List, _∷_}
 use native.Mathlib.Omega.{arith}
 use native.Mathlib.Numerals.{add-one}
 use lib.Dec.{eqb}
-use lib.ListN.{length, getD, set, take, drop, length-take, drop-of-length-le}
-use lib.Seq.{drop-cons, getD-drop, getD-set-same, getD-set-other, take-suc-set, take-all}
+use lib.ListN.{length, getD, drop, drop-of-length-le}
+use lib.Seq.{drop-cons}
 use borrow.Author.Tests.{eqb-true, eqb-false}
 use Rattle.channels.proofs.Cases.{by-test}
 use Rattle.channels.specs.declared.Entry.{Entry}
-use Rattle.channels.specs.declared.Doubts.{Doubts}
-use Rattle.channels.specs.declared.Pool.{Pool}
 use Rattle.channels.specs.Channels.{noEntry}
-use Rattle.channels.specs.Doubts.{isNone, entryBefore, doubtsOf, tidy}
-use Rattle.provisioning.specs.Provisioning.{numbered, provision}
-use Rattle.calls.specs.declared.Slot.{Slot}
-use Rattle.calls.specs.declared.Slots.{Slots}
+use Rattle.channels.specs.Doubts.{isNone, entryBefore, tidy}
 use Rattle.reload.specs.Reload.{allBelow}
-use Rattle.reload.specs.Reading.{twoAt, eightAt, rest, numbersIn, least, listIn, rangeNumbers, pairNumbers, entriesIn, slotIn, behindSlot, slotsIn, tableIn}
-
--- the first k numbers of the contents are read
-pub record Listed (f numbers : List ℕ) (k : ℕ) : Type 0 where
-  pub each : (j : ℕ) → j < k → getD numbers j 0 ≡ twoAt f (3 + j * 2)
-
-two-behind : (n : ℕ) (f : List ℕ) (k : ℕ) → twoAt (drop n f) k ≡ twoAt f (n + k)
-two-behind n f k =
-    let e : n + (k + 1) ≡ n + k + 1 = omega arith in
-    rw (getD-drop n f k 0, getD-drop n f (k + 1) 0, e)
-
-taken : (n : ℕ) (f a : List ℕ) → n ≤ length a → ((j : ℕ) → j < n → getD a j 0 ≡ twoAt f (j * 2)) → take n a ≡ numbersIn f n
-taken zero f a h each = refl
-taken (suc n) f [] h each = absurd (omega arith)
-taken (suc n) f (x ∷ a) h each =
-    let first : x ≡ twoAt f 0 = each 0 (omega arith) in
-    let others : (j : ℕ) → j < n → getD a j 0 ≡ twoAt (drop 2 f) (j * 2) = λ j less.
-    let e : suc j * 2 ≡ 2 + j * 2 = omega arith in
-    each (suc j) (omega arith) ∙ ap (twoAt f) e ∙ sym (two-behind 2 f (j * 2)) in
-    rw (first, taken n (drop 2 f) a (omega arith) others)
-
-listed-all : (f numbers : List ℕ) (k n : ℕ) → Listed f numbers k → n ≤ k → n ≤ length numbers → take n numbers ≡ numbersIn (drop 3 f) n
-listed-all f numbers k n l h size =
-    taken n (drop 3 f) numbers size (λ j less. l .each j (omega arith) ∙ sym (two-behind 3 f (j * 2)))
-
-pub listed-list : (most room : ℕ) (f numbers : List ℕ) (k n : ℕ) → Listed f numbers k → room ≤ k → length numbers ≡ room → n ≤ room → n ≡ least most (twoAt f 1 / 2)
-    → take n numbers ≡ listIn most f
-listed-list most room f numbers k n l h size few e = listed-all f numbers k n l (omega arith) (omega arith) ∙ ap (numbersIn (drop 3 f)) e
-
-pub listed-none : (f numbers : List ℕ) → Listed f numbers 0
-listed-none f numbers = record { each = λ j h. absurd (omega arith) }
-
-pub listed-more : (f numbers : List ℕ) (k v : ℕ) → k < length numbers → v ≡ twoAt f (3 + k * 2) → Listed f numbers k → Listed f (set numbers k v) (k + 1)
-listed-more f numbers k v h e l = record {
-  each = λ j less.
-      by-test (eqb j k)
-      (λ y. let same : j ≡ k = eqb-true j k y in rw same (getD-set-same numbers k v 0 h ∙ e))
-      (λ n. let other : j ≢ k = eqb-false j k n in getD-set-other numbers k j v 0 other ∙ l .each j (omega (arith, other)));
-}
-
--- the first i slots are read, and the field of the next, if it has one, is at this place
-pub record Walked (f : List ℕ) (at n : ℕ) (all : List Slot) (next i : ℕ) : Type 0 where
-  pub same : slotsIn 0 (drop at f) n ≡ take i all ++ slotsIn i (drop next f) (n - i)
-
-pub walked-none : (f : List ℕ) (at n : ℕ) (all : List Slot) → Walked f at n all at 0
-walked-none f at n all = let e : n ≡ n - 0 = omega arith in record { same = ap (slotsIn 0 (drop at f)) e }
-
-slots-suc : (i m : ℕ) (f : List ℕ) → slotsIn i f (suc m) ≡ slotIn i f ∷ slotsIn (i + 1) (behindSlot i f) m
-unfolding slotsIn
-slots-suc i m f = refl
-
-slots-zero : (i : ℕ) (f : List ℕ) → slotsIn i f 0 ≡ []
-unfolding slotsIn
-slots-zero i f = refl
-
-pub walked-more : (f : List ℕ) (at n : ℕ) (all : List Slot) (next i : ℕ) (s : Slot) (after : ℕ) → i < n → i < length all → s ≡ slotIn i (drop next f)
-    → drop after f ≡ behindSlot i (drop next f) → Walked f at n all next i → Walked f at n (set all i s) after (i + 1)
-walked-more f at n all next i s after h k slot behind w =
-    let one : n - i ≡ suc (n - (i + 1)) = omega arith in
-    let left : slotsIn i (drop next f) (n - i) ≡ s ∷ slotsIn (i + 1) (drop after f) (n - (i + 1)) =
-    ap (slotsIn i (drop next f)) one ∙ slots-suc i (n - (i + 1)) (drop next f) ∙ rw (slot, behind) in
-    let front : take (i + 1) (set all i s) ≡ take i all ++ (s ∷ []) = rw (add-one i) (take-suc-set all i s k) in
-    record { same = w .same ∙ ap (λ (r : List Slot). take i all ++ r) left ∙ sym (append-assoc (take i all) (s ∷ []) _) ∙ ap (λ (r : List Slot). r ++ slotsIn (i + 1) (drop after f) (n - (i + 1))) (sym front) }
-
-pub walked-all : (f : List ℕ) (at n : ℕ) (all : List Slot) (next i : ℕ) → n ≤ i → length all ≤ i → Walked f at n all next i → all ≡ slotsIn 0 (drop at f) n
-walked-all f at n all next i h k w =
-    let none : n - i ≡ 0 = omega arith in
-    sym (w .same ∙ rw (none, slots-zero i (drop next f), take-all i all k) (append-nil all))
-
--- the first k of n values are in the array
-pub record Filled {A : Type 0} (f : ℕ → A) (n : ℕ) (all : List A) (k : ℕ) : Type 0 where
-  pub same : numbered f 0 n ≡ take k all ++ numbered f k (n - k)
-
-module _ {A : Type 0} (f : ℕ → A) (n : ℕ) (all : List A) where
-  pub filled-none : Filled f n all 0
-  filled-none = let e : n ≡ n - 0 = omega arith in record { same = ap (numbered f 0) e }
-
-  pub filled-more : (k : ℕ) (v : A) → k < n → k < length all → v ≡ f k → Filled f n all k → Filled f n (set all k v) (k + 1)
-  filled-more k v h size e w =
-      let one : n - k ≡ suc (n - (k + 1)) = omega arith in
-      let left : numbered f k (n - k) ≡ v ∷ numbered f (k + 1) (n - (k + 1)) = ap (numbered f k) one ∙ rw e in
-      let front : take (k + 1) (set all k v) ≡ take k all ++ (v ∷ []) = rw (add-one k) (take-suc-set all k v size) in
-      record { same = w .same ∙ ap (λ (r : List A). take k all ++ r) left ∙ sym (append-assoc (take k all) (v ∷ []) _) ∙ ap (λ (r : List A). r ++ numbered f (k + 1) (n - (k + 1))) (sym front) }
-
-  pub filled-all : (k : ℕ) → n ≤ k → length all ≤ k → Filled f n all k → all ≡ numbered f 0 n
-  filled-all k h size w =
-      let none : n - k ≡ 0 = omega arith in
-      sym (w .same ∙ rw (none, take-all k all size) (append-nil all))
-
-pub counted : (n : ℕ) (a : List ℕ) → n ≤ length a → n ≡ length (take n a)
-counted n a h = simp length-take (omega arith)
-
--- the answer to the lists depends on the lists alone
-pub provision-same : (rs ps rs₁ ps₁ : List ℕ) → rs ≡ rs₁ → ps ≡ ps₁ → provision rs ps ≡ provision rs₁ ps₁
-provision-same rs ps rs₁ ps₁ a b = ap (λ (r : List ℕ). provision r ps) a ∙ ap (provision rs₁) b
-
--- the table, by its parts
-pub table-parts : (f f₂ f₃ f₄ : List ℕ) (ss : Slots) (ds : Doubts) (n : ℕ) (pool : Pool) (count : ℕ) → rest (rest f) ≡ f₂ → rest f₂ ≡ f₃ → rest f₃ ≡ f₄
-    → ss .all ≡ slotsIn 0 f₄ count → ds ≡ doubtsOf (entriesIn (listIn 128 f₃)) → n ≡ eightAt f₂ 3
-    → pool ≡ provision (rangeNumbers f) (pairNumbers f) .pool → record { slots = ss; doubts = ds; last = n; pool = pool } ≡ tableIn count f
-table-parts f f₂ f₃ f₄ ss ds n pool count a b c d e g h = rw (a, b, c, ← d, ← e, ← g, h)
 
 -- Pairs in doubt that ascend; what is left of the list is `drop i es`.
 

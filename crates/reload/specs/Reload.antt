@@ -34,7 +34,7 @@ use Rattle.outcome.specs.declared.Started.{Started}
 use Rattle.outcome.specs.Refusals.{largestReading, hostCauses, holdAt}
 use Rattle.control.specs.Events.{startOf}
 use Rattle.saved.specs.Form.{formOf}
-use Rattle.reload.specs.Reading.{rangeNumbers, pairNumbers, tableIn}
+use Rattle.reading.specs.Reading.{rangeNumbers, pairNumbers, tableIn}
 
 -- "a state, timer, side or cause that document 01 never puts together, and a deadline further past the last reading than its timer
 -- is long": N3 is the user's call, N6 and N9 are the network's; N12 has a cause of the host, or the network's call has 102 with "310"

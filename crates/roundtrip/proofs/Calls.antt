@@ -19,8 +19,9 @@ use Rattle.calls.specs.declared.Call.{Call}
 use Rattle.calls.specs.declared.Hold.{Hold}
 use Rattle.calls.specs.declared.Hold.the-variants.{Empty, Live}
 use Rattle.calls.specs.declared.Slot.{Slot}
-use Rattle.saved.specs.Form.{field, phaseOctets, callOctets, holdField, callFields}
-use Rattle.reload.specs.Reading.{phaseIn, callIn, begins, slotsIn}
+use Rattle.fields.specs.Fields.{field, phaseOctets, callOctets, holdField}
+use Rattle.saved.specs.Form.{callFields}
+use Rattle.reading.specs.Reading.{phaseIn, callIn, begins, slotsIn}
 use Rattle.roundtrip.proofs.Numbers.{eight-back}
 use Rattle.roundtrip.proofs.Fields.{rest-back}
 

@@ -10,8 +10,9 @@ use lib.ListN.{length, getD}
 use lib.Seq.{drop-append-seam}
 use borrow.Author.Tests.{le-ltb}
 use Rattle.octets.proofs.Numbers.{number-back}
-use Rattle.saved.specs.Form.{two, field, joined}
-use Rattle.reload.specs.Reading.{twoAt, rest, numbersIn, listIn}
+use Rattle.fields.specs.Fields.{two, field}
+use Rattle.saved.specs.Form.{joined}
+use Rattle.reading.specs.Reading.{twoAt, rest, numbersIn, listIn}
 
 module _ (tag : ℕ) (contents post : List ℕ) (short : length contents < 65536) where
   pub size-back : twoAt (field tag contents ++ post) 1 ≡ length contents

@@ -17,7 +17,8 @@ use Rattle.channels.proofs.Cases.{by-test, both}
 use Rattle.provisioning.specs.Provisioning.{rangeAt, singleAt, entryAt, rangeOk, rangesOk, pairsOk, numbered}
 use Rattle.provisioning.proofs.Ascending.{ascending-fits}
 use Rattle.provisioning.proofs.Accepted.{Limits, limits, ranges-lists}
-use Rattle.saved.specs.Form.{two, joined, rangeOctets, entryOctets}
+use Rattle.fields.specs.Fields.{two, rangeOctets, entryOctets}
+use Rattle.saved.specs.Form.{joined}
 
 -- a list numbered from one further
 pub numbered-shift : {A : Type 0} (f g : ℕ → A) → ((k : ℕ) → f (k + 1) ≡ g k) → (k n : ℕ) → numbered f (k + 1) n ≡ numbered g k n

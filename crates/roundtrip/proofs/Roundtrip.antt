@@ -31,7 +31,7 @@ use Rattle.outcome.specs.Refusals.{largestReading, hostCauses}
 use Rattle.control.specs.Events.{startOf}
 use Rattle.control.specs.Happens.{Event, happens, after}
 use Rattle.saved.specs.Form.{formOf}
-use Rattle.reload.specs.Reading.{rangeNumbers, pairNumbers, tableIn}
+use Rattle.reading.specs.Reading.{rangeNumbers, pairNumbers, tableIn}
 use Rattle.reload.specs.Reload.{slotKept, allBelow, isForm, reloadIn, reloadOf, doubtsKept}
 use Rattle.reload.specs.Reached.{Beginning, start, reload, begun, Reached}
 use Rattle.safety.specs.Tables.{slotAt}

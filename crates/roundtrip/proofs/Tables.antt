@@ -13,8 +13,9 @@ use Rattle.provisioning.proofs.Accepted.{accepted-lists, ranges-lists}
 use Rattle.channels.specs.declared.Pool.{Pool}
 use Rattle.calls.specs.declared.Slots.{Slots}
 use Rattle.table.specs.declared.Table.{Table}
-use Rattle.saved.specs.Form.{two, eight, field, joined, callFields, formOf}
-use Rattle.reload.specs.Reading.{eightAt, rest, rangeNumbers, pairNumbers, listIn, slotsIn, tableIn, entriesIn}
+use Rattle.fields.specs.Fields.{two, eight, field}
+use Rattle.saved.specs.Form.{joined, callFields, formOf}
+use Rattle.reading.specs.Reading.{eightAt, rest, rangeNumbers, pairNumbers, listIn, slotsIn, tableIn, entriesIn}
 use Rattle.roundtrip.specs.Roundtrip.{Provisioned}
 use Rattle.roundtrip.proofs.Numbers.{eight-back}
 use Rattle.roundtrip.proofs.Fields.{joined-two, rest-back, list-back}

@@ -20,7 +20,7 @@ use Rattle.calls.proofs.Unused.{unused-found}
 use Rattle.effects.specs.Effect.{slotCount}
 use Rattle.table.specs.declared.Table.{Table}
 use Rattle.control.specs.Happens.{Event, message, tick, connect, clear, offer, happens, after}
-use Rattle.reload.specs.Reading.{twoAt, rest, callIn, begins, slotIn, behindSlot, slotsIn}
+use Rattle.reading.specs.Reading.{twoAt, rest, callIn, begins, slotIn, behindSlot, slotsIn}
 use Rattle.reload.specs.Reload.{reloadIn}
 use Rattle.reload.specs.Reached.{Beginning, start, reload, begun, Reached, BegunInOctets}
 use Rattle.safety.specs.Tables.{HasSlots}

@@ -37,7 +37,7 @@ use Rattle.effects.specs.Effect.{slotCount}
 use Rattle.table.specs.declared.Table.{Table}
 use Rattle.outcome.specs.Refusals.{largestReading, hostCauses}
 use Rattle.saved.specs.Form.{formOf}
-use Rattle.reload.specs.Reading.{rangeNumbers, pairNumbers, rest, behindSlot, slotsIn, tableIn, doubtNumbers}
+use Rattle.reading.specs.Reading.{rangeNumbers, pairNumbers, rest, behindSlot, slotsIn, tableIn, doubtNumbers}
 use Rattle.reload.specs.Reload.{phaseKept, isAt, callKept, slotKept, allBelow, isForm, reloadIn, reloadOf, channelLost, isLost, doubtsKept}
 use Rattle.safety.specs.Tables.{HasSlots, HasCall}
 use Rattle.safety.specs.Sound.{PhaseSound, in-N3, in-N6, in-N9, in-N10, by-host, by-timer, Sound}

@@ -6,7 +6,7 @@ use mathlib.Core.Path.{ap, _∙_}
 use mathlib.Core.List.{List}
 use lib.ListN.{length-take}
 use Rattle.octets.specs.Octets.{equal}
-use Rattle.saved.proofs.Joined.{kept}
+use Rattle.fields.proofs.Filed.{kept}
 use borrow.Author.Needs.{needs}
 use Rattle.reload.proofs.is_own.Statement.{statement}
 use Rattle.reload.proofs.is_own.Tie as tie

@@ -2,7 +2,7 @@
 use borrow.Author.Needs.{needs}
 use native.Mathlib.Omega.{arith}
 use lib.ListN.{length-take}
-use Rattle.saved.proofs.Joined.{filed}
+use Rattle.fields.proofs.Filed.{filed}
 use Rattle.saved.proofs.put_permanent_field.Statement.{statement}
 use Rattle.saved.proofs.put_permanent_field.Tie as tie
 

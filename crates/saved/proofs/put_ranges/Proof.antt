@@ -7,7 +7,8 @@ use mathlib.Core.Path.{_≡_}
 use lib.ListN.{length, drop, length-map}
 use Rattle.channels.proofs.Walk.{zeroRange}
 use Rattle.octets.proofs.Stores.{Begun, begun-none, begun-more, begun-all}
-use Rattle.saved.specs.Form.{joined, rangeOctets}
+use Rattle.fields.specs.Fields.{rangeOctets}
+use Rattle.saved.specs.Form.{joined}
 use Rattle.saved.proofs.Joined.{joined-at, joined-end}
 use Rattle.saved.proofs.put_ranges.Statement.{statement}
 use Rattle.saved.proofs.put_ranges.Tie as tie

@@ -7,7 +7,7 @@ use borrow.Author.Tests.{lt-ltb, le-ltb}
 use Rattle.octets.specs.Octets.{Wrote}
 use Rattle.octets.proofs.Stores.{chained}
 use Rattle.saved.specs.Form.{formOf}
-use Rattle.saved.proofs.Joined.{kept}
+use Rattle.fields.proofs.Filed.{kept}
 use Rattle.saved.proofs.save.Statement.{statement}
 use Rattle.saved.proofs.save.Tie as tie
 
