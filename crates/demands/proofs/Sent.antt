@@ -21,7 +21,7 @@ use Rattle.calls.specs.First.{place}
 use Rattle.calls.specs.Calls.{isEmpty, unusedReference}
 use Rattle.calls.specs.Timers.{nextDue}
 use Rattle.header.specs.Header.{headOf}
-use Rattle.elements.specs.Elements.{wholeFrom}
+use Rattle.items.specs.Items.{wholeFrom}
 use Rattle.replies.specs.Reply.{isSilent, meant}
 use Rattle.readback.specs.ReadBack.{Octets}
 use Rattle.readback.specs.Replies.{OfferBody, setupMeant}

@@ -8,9 +8,10 @@ use mathlib.Core.Path.{_≡_, refl}
 use mathlib.Core.Bool.{true, false}
 use mathlib.Core.List.{List, [], _∷_, _++_}
 use lib.ListN.{take}
+use Rattle.items.specs.Items.{items, countOf, wholeFrom}
 use Rattle.elements.specs.declared.Look.the-variants.{Absent, Unreadable, Readable}
 use Rattle.elements.specs.declared.BearerRead.the-variants as bearer
-use Rattle.elements.specs.Elements.{lookFor, countOf, items, wholeFrom}
+use Rattle.elements.specs.Elements.{lookFor}
 use Rattle.elements.specs.Values.{bearerIn}
 
 abbrev pub setup : List ℕ

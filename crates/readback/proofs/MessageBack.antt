@@ -13,7 +13,7 @@ use lib.ListN.{length, getD, drop, length-drop}
 use Rattle.octets.specs.Octets.{high, low, number}
 use Rattle.header.specs.Header.{headerIn}
 use Rattle.octets.proofs.Cases.{by-test}
-use Rattle.elements.specs.Elements.{wholeFrom}
+use Rattle.items.specs.Items.{wholeFrom}
 use Rattle.replies.specs.Message.{Message, header, message, octets as written}
 use Rattle.readback.specs.ReadBack.{elementsIn, unreadable, reads, readMessage, Octets}
 use Rattle.readback.proofs.WriteBack.{one-more, four-more, elements-write-back}

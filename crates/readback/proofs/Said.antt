@@ -21,8 +21,9 @@ use Rattle.contents.specs.Contents.{causeNumber, callStateValue, connectionIn a
 use Rattle.contents.specs.Fits.{fits}
 use Rattle.octets.proofs.Cases.{by-test}
 use Rattle.octets.proofs.Numbers.{number-back}
-use Rattle.elements.specs.declared.Item.{Item}
-use Rattle.elements.specs.declared.Item.the-variants.{End, Overrun, Whole}
+use Rattle.items.specs.declared.Item.{Item}
+use Rattle.items.specs.declared.Item.the-variants.{End, Overrun, Whole}
+use Rattle.items.specs.Items.{items, firstOf, endsWhole, wholeFrom}
 use Rattle.elements.specs.declared.CauseRead.the-variants.{Number}
 use Rattle.elements.specs.declared.CauseRead.the-variants as causeRead
 use Rattle.elements.specs.declared.CallStateRead.the-variants.{Value}
@@ -31,7 +32,7 @@ use Rattle.elements.specs.declared.ConnectionRead.the-variants.{Pair}
 use Rattle.elements.specs.declared.ConnectionRead.the-variants as pairRead
 use Rattle.elements.specs.declared.RestartRead.the-variants.{Class}
 use Rattle.elements.specs.declared.RestartRead.the-variants as restartRead
-use Rattle.elements.specs.Elements.{items, firstOf, endsWhole, wholeFrom, actionFits, judge, lookFor}
+use Rattle.elements.specs.Elements.{actionFits, judge, lookFor}
 use Rattle.elements.specs.Values.{read, causeIn, callStateIn, connectionIn, restartIn}
 use Rattle.replies.specs.declared.Cause.{Cause}
 use Rattle.replies.specs.declared.Reply.{Reply}

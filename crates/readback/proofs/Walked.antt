@@ -14,9 +14,9 @@ use lib.Seq.{getD-append-add, drop-append-add, take-at}
 use Rattle.octets.specs.Octets.{part}
 use Rattle.octets.proofs.Cases.{by-test}
 use Rattle.octets.proofs.Numbers.{number-back}
-use Rattle.elements.specs.declared.Item.the-variants.{Whole}
-use Rattle.elements.specs.Elements.{contentLength, itemAt, items, wholeFrom}
-use Rattle.elements.proofs.Items.{items-on}
+use Rattle.items.specs.declared.Item.the-variants.{Whole}
+use Rattle.items.specs.Items.{contentLength, itemAt, items, wholeFrom}
+use Rattle.items.proofs.Items.{items-on}
 use Rattle.replies.specs.Message.{Element, elementOctets, body}
 use Rattle.readback.specs.ReadBack.{elementsIn, EachFits, none, more}
 

@@ -18,9 +18,9 @@ use lib.Seq.{drop-cons, drop-drop}
 use Rattle.octets.specs.Octets.{high, low, part}
 use Rattle.traffic.specs.Walk.{walk}
 use Rattle.octets.proofs.Cases.{by-test}
-use Rattle.elements.specs.declared.Item.{Item}
-use Rattle.elements.specs.declared.Item.the-variants.{End, Overrun, Whole}
-use Rattle.elements.specs.Elements.{contentLength, itemAt, itemStep, andThen, endsWhole, wholeFrom}
+use Rattle.items.specs.declared.Item.{Item}
+use Rattle.items.specs.declared.Item.the-variants.{End, Overrun, Whole}
+use Rattle.items.specs.Items.{contentLength, itemAt, itemStep, andThen, endsWhole, wholeFrom}
 use Rattle.replies.specs.Message.{elementOctets, body}
 use Rattle.readback.specs.ReadBack.{elementsAmong, elementsIn, Octets, Fits, EachFits, none, more}
 use Rattle.readback.proofs.Octets.{octets-take, octets-drop}

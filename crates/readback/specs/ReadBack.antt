@@ -12,9 +12,9 @@ use Rattle.octets.specs.Octets.{part}
 use Rattle.header.specs.declared.Head.{Head}
 use Rattle.header.specs.declared.Head.the-variants.{Ignored, Is}
 use Rattle.header.specs.Header.{headOf}
-use Rattle.elements.specs.declared.Item.{Item}
-use Rattle.elements.specs.declared.Item.the-variants.{End, Overrun, Whole}
-use Rattle.elements.specs.Elements.{items, wholeFrom}
+use Rattle.items.specs.declared.Item.{Item}
+use Rattle.items.specs.declared.Item.the-variants.{End, Overrun, Whole}
+use Rattle.items.specs.Items.{items, wholeFrom}
 use Rattle.replies.specs.Message.{Element, body, Message, message}
 
 -- "Element: identifier, octet 2, two-octet content length, contents."

@@ -8,7 +8,7 @@ use mathlib.Core.Path.{_≡_}
 use mathlib.Core.Bool.{true, false}
 use mathlib.Core.List.{List, _∷_}
 use lib.ListN.{length}
-use Rattle.elements.specs.Elements.{wholeFrom}
+use Rattle.items.specs.Items.{wholeFrom}
 use Rattle.replies.specs.declared.Diagnostic.{Diagnostic}
 use Rattle.replies.specs.declared.Diagnostic.the-variants as diagnostic
 use Rattle.replies.specs.declared.Cause.{Cause}

@@ -7,7 +7,7 @@ use Prim.Native.Nat.{ℕ}
 use mathlib.Core.Bool.{Bool, true, false, _&&_}
 use mathlib.Core.List.{List}
 use lib.Dec.{eqb}
-use Rattle.elements.specs.Elements.{items, countOf, wholeFrom}
+use Rattle.items.specs.Items.{items, countOf, wholeFrom}
 use Rattle.setup.specs.declared.Admission.{Admission}
 use Rattle.setup.specs.declared.Admission.the-variants.{Admitted, Refused}
 use Rattle.setup.specs.Setup.{admission}

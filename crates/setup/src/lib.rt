@@ -169,7 +169,7 @@ pub fn admit(m: &[u8], from: usize) -> Admission
 fn is_counted(body: &[u8], id: u8, n: usize) -> bool
     ensures { λ r. ⌜ r ≡ counted (now (body .entry)) id n ⌝ }
 {
-    elements::count(body, 0, id) == n
+    items::count(body, 0, id) == n
 }
 
 fn is_admitted(body: &[u8]) -> bool
@@ -185,7 +185,7 @@ fn is_admitted(body: &[u8]) -> bool
 pub fn offer_fits(body: &[u8]) -> bool
     ensures { λ r. ⌜ r ≡ offerFits (now (body .entry)) ⌝ }
 {
-    if !elements::whole(body, 0) {
+    if !items::whole(body, 0) {
         return false;
     }
     if !is_counted(body, 0x59, 1) {

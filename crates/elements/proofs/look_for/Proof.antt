@@ -2,7 +2,7 @@
 use borrow.Author.Needs.{needs}
 use borrow.Author.Tests.{not-true, not-false}
 use mathlib.Core.Path.{sym, _∙_}
-use Rattle.elements.proofs.Items.{first-within}
+use Rattle.items.proofs.Items.{first-within}
 use Rattle.elements.proofs.look_for.Statement.{statement}
 use Rattle.elements.proofs.look_for.Tie as tie
 

@@ -1,8 +1,8 @@
--- `elements::item_at` meets its contract: each answer by the tests that led to it. Assumes nothing.
+-- `items::item_at` meets its contract: each answer by the tests that led to it. Assumes nothing.
 use borrow.Author.Needs.{needs}
 use borrow.Author.Tests.{lt-ltb, le-ltb}
-use Rattle.elements.proofs.item_at.Statement.{statement}
-use Rattle.elements.proofs.item_at.Tie as tie
+use Rattle.items.proofs.item_at.Statement.{statement}
+use Rattle.items.proofs.item_at.Tie as tie
 
 returns : tie.Need-returns
 returns c = rw (lt-ltb _ _ (c .if1 .taken))

@@ -1,8 +1,8 @@
--- `elements::one_if` meets its contract: each answer by the tests that led to it. Assumes nothing.
+-- `items::one_if` meets its contract: each answer by the tests that led to it. Assumes nothing.
 use borrow.Author.Needs.{needs}
 use borrow.Author.Tests.{eq-eqb, ne-eqb}
-use Rattle.elements.proofs.one_if.Statement.{statement}
-use Rattle.elements.proofs.one_if.Tie as tie
+use Rattle.items.proofs.one_if.Statement.{statement}
+use Rattle.items.proofs.one_if.Tie as tie
 
 returns : tie.Need-returns
 returns c = (rw (eq-eqb _ _ (c .if1 .taken)), search needs)

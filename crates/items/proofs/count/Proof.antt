@@ -1,13 +1,13 @@
--- `elements::count` meets its contract. The loop's invariant: those counted, at most one an octet, and those from the present place on are all. Assumes nothing.
+-- `items::count` meets its contract. The loop's invariant: those counted, at most one an octet, and those from the present place on are all. Assumes nothing.
 use borrow.Author.Needs.{needs}
 use Prim.Native.Nat.{_+_, _-_, _≤_}
 use native.Mathlib.Omega.{arith}
 use mathlib.Core.Path.{_≡_, sym, _∙_}
 use lib.ListN.{length}
-use Rattle.elements.specs.Elements.{countOf, items}
-use Rattle.elements.proofs.Items.{met, moved}
-use Rattle.elements.proofs.count.Statement.{statement}
-use Rattle.elements.proofs.count.Tie as tie
+use Rattle.items.specs.Items.{countOf, items}
+use Rattle.items.proofs.Items.{met, moved}
+use Rattle.items.proofs.count.Statement.{statement}
+use Rattle.items.proofs.count.Tie as tie
 
 abbrev Inv-loop : tie.InvT-loop
 Inv-loop m from id n₀ at₀ n at = (n ≤ at) × (countOf id (items m from) ≡ n + countOf id (items m at))

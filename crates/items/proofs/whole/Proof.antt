@@ -1,13 +1,13 @@
--- `elements::whole` meets its contract. The loop's invariant: all are whole if those from the present place on are. Assumes nothing.
+-- `items::whole` meets its contract. The loop's invariant: all are whole if those from the present place on are. Assumes nothing.
 use borrow.Author.Needs.{needs}
 use Prim.Native.Nat.{_-_}
 use native.Mathlib.Omega.{arith}
 use mathlib.Core.Path.{_≡_, refl, sym, _∙_}
 use lib.ListN.{length}
-use Rattle.elements.specs.Elements.{wholeFrom}
-use Rattle.elements.proofs.Items.{met, moved}
-use Rattle.elements.proofs.whole.Statement.{statement}
-use Rattle.elements.proofs.whole.Tie as tie
+use Rattle.items.specs.Items.{wholeFrom}
+use Rattle.items.proofs.Items.{met, moved}
+use Rattle.items.proofs.whole.Statement.{statement}
+use Rattle.items.proofs.whole.Tie as tie
 
 abbrev Inv-loop : tie.InvT-loop
 Inv-loop m from at₀ at = wholeFrom m from ≡ wholeFrom m at

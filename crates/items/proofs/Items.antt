@@ -14,9 +14,9 @@ use lib.ListN.{length}
 use Rattle.traffic.specs.Walk.{walk}
 use Rattle.octets.proofs.Cases.{by-test}
 use Rattle.traffic.proofs.Walk.{walk-on}
-use Rattle.elements.specs.declared.Item.{Item}
-use Rattle.elements.specs.declared.Item.the-variants.{End, Overrun, Whole}
-use Rattle.elements.specs.Elements.{contentLength, itemAt, andThen, itemStep, items, firstOf}
+use Rattle.items.specs.declared.Item.{Item}
+use Rattle.items.specs.declared.Item.the-variants.{End, Overrun, Whole}
+use Rattle.items.specs.Items.{contentLength, itemAt, andThen, itemStep, items, firstOf}
 
 -- an element at place at, among l octets, ends where it may
 abbrev pub Moves : ℕ → ℕ → Item → Type 0

@@ -1,14 +1,14 @@
--- `elements::first_of` meets its contract. The loop's invariant: the first is the first from the present place on. Assumes nothing.
+-- `items::first_of` meets its contract. The loop's invariant: the first is the first from the present place on. Assumes nothing.
 use borrow.Author.Needs.{needs}
 use Prim.Native.Nat.{_-_}
 use native.Mathlib.Omega.{arith}
 use mathlib.Core.Path.{_≡_, refl, sym, _∙_}
 use lib.ListN.{length}
 use borrow.Author.Tests.{eq-eqb, ne-eqb}
-use Rattle.elements.specs.Elements.{firstOf, items}
-use Rattle.elements.proofs.Items.{met, moved}
-use Rattle.elements.proofs.first_of.Statement.{statement}
-use Rattle.elements.proofs.first_of.Tie as tie
+use Rattle.items.specs.Items.{firstOf, items}
+use Rattle.items.proofs.Items.{met, moved}
+use Rattle.items.proofs.first_of.Statement.{statement}
+use Rattle.items.proofs.first_of.Tie as tie
 
 abbrev Inv-loop : tie.InvT-loop
 Inv-loop m from id at₀ at = firstOf id (items m from) ≡ firstOf id (items m at)
