@@ -200,13 +200,14 @@ fn place_in(text: &str) -> Option<Place> {
     }
 }
 
-/// If a line of a text begins with the name, behind its marks, as a
-/// declaration, a field or a constructor does.
+/// If a line of a text declares the name: behind a mark, or, as a constructor
+/// does, before its type.
 fn declares(text: &str, name: &str) -> bool {
     const MARKS: [&str; 5] = ["abbrev", "unfoldable", "pub", "record", "data"];
     text.lines().any(|line| {
-        let mut words = line.split_whitespace();
-        words.find(|word| !MARKS.contains(word)) == Some(name)
+        let words: Vec<&str> = line.split_whitespace().collect();
+        let marks = words.iter().take_while(|word| MARKS.contains(word)).count();
+        words.get(marks) == Some(&name) && (marks > 0 || words.get(1) == Some(&":"))
     })
 }
 

@@ -5,7 +5,7 @@ use std::fs;
 use std::path::PathBuf;
 
 const CODE: &str = "pub struct Pair {\n    pub a: u8,\n}\nimpl Pair {\n    pub fn first(self) -> u8 {\n        self.a\n    }\n}\n";
-const SPECS: &str = "abbrev pub twice : \u{2115} \u{2192} \u{2115}\ntwice n = n + n\npub record Even (n : \u{2115}) : Type 0 where\n  pub half : \u{2115}\n";
+const SPECS: &str = "abbrev pub twice : \u{2115} \u{2192} \u{2115}\ntwice n =\n    sum n n\npub record Even (n : \u{2115}) : Type 0 where\n  pub half : \u{2115}\n";
 
 fn repository(name: &str) -> PathBuf {
     let root = std::env::temp_dir().join(format!("books-{name}-{}", std::process::id()));
@@ -55,7 +55,7 @@ fn a_definition_that_went() {
 
 #[test]
 fn a_use_is_no_declaration() {
-    let row = "| said | pairs/specs/Pairs: `n` | nothing to hold |";
+    let row = "| said | pairs/specs/Pairs: `sum` | nothing to hold |";
     assert_eq!(promised("use", row).len(), 1);
 }
 
