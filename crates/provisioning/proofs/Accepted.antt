@@ -17,8 +17,8 @@ use Rattle.channels.specs.Channels.{inRange, inRanges, noRange}
 use Rattle.channels.specs.declared.Range.{Range}
 use Rattle.channels.proofs.Cases.{by-test, clash, both}
 use Rattle.channels.proofs.Lowest.{within}
-use Rattle.provisioning.specs.Provisioning.{rangeAt, rangeOk, ascending, rangesOk, pairsOk, numbered, poolOf, provision}
-use Rattle.provisioning.proofs.Ascending.{ascending-fits}
+use Rattle.provisioning.specs.Provisioning.{rangeAt, rangeOk, fits, ascending, rangesOk, pairsOk, numbered, poolOf, provision}
+use Rattle.provisioning.proofs.Below.{below-at}
 
 -- "VPCI 0 to 255; VCI 32 to 65535; first at most last."
 pub record Limits (r : Range) : Type 0 where
@@ -47,7 +47,7 @@ ranges-lists s e =
     let d = both (leb (length s / 3) 4) _ (b .1) in
     record {
       few = leb-true _ _ (d .0);
-      each = λ k h. limits (rangeAt s k) ((both (rangeOk (rangeAt s k)) _ (ascending-fits (rangeAt s) (length s / 3) k (d .1) h)) .0);
+      each = λ k h. limits (rangeAt s k) ((both (rangeOk (rangeAt s k)) _ (below-at (fits (rangeAt s)) (length s / 3) k (d .1) h)) .0);
       ascend = d .1;
     }
 

@@ -19,8 +19,8 @@ use Rattle.channels.specs.declared.Channel.the-variants.{Pair}
 use Rattle.channels.specs.declared.Range.{Range}
 use Rattle.channels.proofs.Cases.{by-test, clash, both}
 use Rattle.channels.proofs.Lowest.{Scanned, within, within-in, scan-pair}
-use Rattle.provisioning.specs.Provisioning.{before, ascending, rangeAt, rangeOk, numbered, provision}
-use Rattle.provisioning.proofs.Ascending.{ascending-fits}
+use Rattle.provisioning.specs.Provisioning.{before, fits, ascending, rangeAt, rangeOk, numbered, provision}
+use Rattle.provisioning.proofs.Below.{below-at}
 use Rattle.provisioning.proofs.Accepted.{Limits, ranges-lists, some-numbered, accepted-lists, provision-pair, in-list}
 
 abbrev pub order : ℕ → ℕ → ℕ
@@ -74,7 +74,7 @@ module _ (at : ℕ → Range) (n : ℕ) (ascend : ascending at n ≡ true) (each
     (outside : (p v j : ℕ) → inRange p v (at j) ≡ true → j < n) where
   next : (k : ℕ) → k + 1 < n → order (at k .vpci) (at k .last) < order (at (k + 1) .vpci) (at (k + 1) .first)
   next k h =
-      let f = (both (rangeOk (at (k + 1))) _ (ascending-fits at n (k + 1) ascend h)) .1 in
+      let f = (both (rangeOk (at (k + 1))) _ (below-at (fits at) n (k + 1) ascend h)) .1 in
       let z : eqb (k + 1) 0 ≡ false = ne-eqb (k + 1) 0 (λ e. omega arith) in
       let b : k + 1 - 1 ≡ k = omega arith in
       before-order (at k .vpci) (at k .last) (at (k + 1) .vpci) (at (k + 1) .first) ((each k (omega arith)) .high) (rw (z, b) at f)

@@ -1,4 +1,4 @@
-pub mod Ascending
+pub mod Below
 pub mod Accepted
 pub mod Least
 pub mod Examples

@@ -2,6 +2,7 @@
 --   rangeAt, singleAt, entryAt     the k-th range, the k-th pair as the range of its one VCI, and the k-th pair as an entry
 --   rangeOk                        the limits of one range
 --   before, apart                  the order of pairs, and of ranges
+--   allBelow                       a test of each number below another
 --   fits, ascending                the k-th of a list of ranges keeps the limits and comes behind the one before it; and so the first n
 --   rangesOk, pairsOk              a list that breaks no rule
 --   poolOf, refused, provision     what start makes of its lists
@@ -38,6 +39,10 @@ entryAt s k =
     (record { channel = Pair (getD s (k * 2) 0) (getD s (k * 2 + 1) 0) })
     noEntry
 
+abbrev pub allBelow : (ℕ → Bool) → ℕ → Bool
+allBelow p zero = true
+allBelow p (suc n) = allBelow p n && p n
+
 -- "VPCI 0 to 255; VCI 32 to 65535; first at most last."
 abbrev pub rangeOk : Range → Bool
 rangeOk r = leb (r .vpci) 255 && (leb 32 (r .first) && (leb (r .last) 65535 && leb (r .first) (r .last)))
@@ -54,8 +59,7 @@ abbrev pub fits : (ℕ → Range) → ℕ → Bool
 fits at k = rangeOk (at k) && (eqb k 0 || apart (at (k - 1)) (at k))
 
 abbrev pub ascending : (ℕ → Range) → ℕ → Bool
-ascending at zero = true
-ascending at (suc n) = ascending at n && fits at n
+ascending at n = allBelow (fits at) n
 
 -- "1 to 4 ranges, 0 to 8 pairs"; "a length not a multiple included"
 abbrev pub rangesOk : List ℕ → Bool

@@ -8,14 +8,14 @@ use mathlib.Core.Bool.{Bool, true, false, cond, _&&_}
 use mathlib.Core.List.{List, []}
 use lib.Dec.{leb}
 use Rattle.octets.specs.Octets.{equal}
-use Rattle.provisioning.specs.Provisioning.{provision}
+use Rattle.provisioning.specs.Provisioning.{allBelow, provision}
 use Rattle.table.specs.declared.Table.{Table}
 use Rattle.outcome.specs.declared.Started.{Started}
 use Rattle.outcome.specs.Refusals.{largestReading}
 use Rattle.control.specs.Events.{startOf}
 use Rattle.saved.specs.Form.{formOf}
 use Rattle.reading.specs.Reading.{rangeNumbers, pairNumbers, tableIn}
-use Rattle.reload.specs.Reload.{slotKept, allBelow, doubtsKept, reloadIn}
+use Rattle.reload.specs.Reload.{slotKept, doubtsKept, reloadIn}
 
 abbrev answer : Bool → Bool → Bool → Bool → Bool → Table → Started
 answer a b c d e t = cond (a && (b && (c && (d && e)))) (record { refusal = 0; table = t }) (startOf [] [])

@@ -1,22 +1,17 @@
--- Laws for the loops of the rules.
+-- Laws of the loop over the pairs in doubt.
 --   tidy-here, tidy-not-here, tidy-end  pairs in doubt that ascend
---   none-below, below-more, not-below   each number below another
 -- Assumes nothing.
-use Prim.Native.Nat.{ℕ, zero, suc, _+_, _<_}
-use mathlib.Core.Path.{_≡_, refl, sym, ap, _∙_}
-use mathlib.Core.Bool.{Bool, true, false, and-false, _||_}
+use Prim.Native.Nat.{ℕ, suc, _+_, _<_}
+use mathlib.Core.Path.{_≡_, sym, ap, _∙_}
+use mathlib.Core.Bool.{Bool, true, false, _||_}
 use mathlib.Core.List.{List, _∷_}
 use native.Mathlib.Omega.{arith}
 use native.Mathlib.Numerals.{add-one}
-use lib.Dec.{eqb}
 use lib.ListN.{length, getD, drop, drop-of-length-le}
 use lib.Seq.{drop-cons}
-use borrow.Author.Tests.{eqb-true, eqb-false}
-use Rattle.channels.proofs.Cases.{by-test}
 use Rattle.channels.specs.declared.Entry.{Entry}
 use Rattle.channels.specs.Channels.{noEntry}
 use Rattle.channels.specs.Doubts.{isNone, entryBefore, tidy}
-use Rattle.reload.specs.Reload.{allBelow}
 
 -- Pairs in doubt that ascend; what is left of the list is `drop i es`.
 
@@ -38,22 +33,3 @@ module _ (es : List Entry) (i : ℕ) where
 
   pub tidy-end : length es ≡ i + 1 → tidy es ≡ tidy (drop i es) → true ≡ tidy es
   tidy-end h left = sym (left ∙ rw (drop-cons es i noEntry (omega arith), drop-of-length-le es {i = suc i} (omega arith)))
-
--- Each number below another.
-
-module _ (p : ℕ → Bool) where
-  pub none-below : allBelow p 0 ≡ true
-  unfolding allBelow
-  none-below = refl
-
-  pub below-more : (k : ℕ) → allBelow p k ≡ true → p k ≡ true → allBelow p (k + 1) ≡ true
-  unfolding allBelow
-  below-more k e h = rw (add-one k, e, h)
-
-  pub not-below : (n k : ℕ) → k < n → p k ≡ false → allBelow p n ≡ false
-  unfolding allBelow
-  not-below zero k h e = absurd (omega arith)
-  not-below (suc n) k h e =
-      by-test (eqb k n)
-      (λ t. rw (← eqb-true k n t, e) (and-false (allBelow p k)))
-      (λ t. rw (not-below n k (omega (arith, eqb-false k n t)) e))

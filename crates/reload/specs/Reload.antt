@@ -1,11 +1,10 @@
 -- Reloading a table (document 02, R-1): "The reader refuses .. with 9 and gives no table."
 --   clearingKept, phaseKept, callKept, slotKept     what document 01 puts together in a slot
 --   doubtsKept                        the pairs in doubt
---   allBelow                          a test of each number below another
 --   isForm                            octets that are the saved form of a table of so many slots that keeps the rules
 --   reloadIn, reloadOf                what reloading answers, for so many slots and for ours
 -- Assumes nothing.
-use Prim.Native.Nat.{ℕ, zero, suc, _+_}
+use Prim.Native.Nat.{ℕ, _+_}
 use mathlib.Core.Bool.{Bool, true, false, cond, not, _&&_, _||_}
 use mathlib.Core.List.{List, []}
 use lib.Dec.{eqb, leb}
@@ -17,7 +16,7 @@ use Rattle.channels.specs.declared.Entry.{Entry}
 use Rattle.channels.specs.Some.{someOf}
 use Rattle.channels.specs.Channels.{permitted}
 use Rattle.channels.specs.Doubts.{tidy}
-use Rattle.provisioning.specs.Provisioning.{provision}
+use Rattle.provisioning.specs.Provisioning.{allBelow, provision}
 use Rattle.calls.specs.declared.Clearing.{Clearing}
 use Rattle.calls.specs.declared.Phase.{Phase}
 use Rattle.calls.specs.declared.Phase.the-variants.{N3, N6, N9, N10, N12}
@@ -67,10 +66,6 @@ holdKept t slot (Live c) = callKept t slot c
 
 abbrev pub slotKept : Table → ℕ → Bool
 slotKept t slot = holdKept t slot (holdAt t slot)
-
-unfoldable pub allBelow : (ℕ → Bool) → ℕ → Bool
-allBelow p zero = true
-allBelow p (suc n) = allBelow p n && p n
 
 -- document 02, R-2: "refused if one is held or not permitted"
 abbrev pub channelLost : Table → Channel → Bool

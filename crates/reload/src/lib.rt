@@ -19,9 +19,10 @@ ghost use mathlib.Core.List.{[]};
 ghost use Rattle.octets.specs.Octets.{equal};
 ghost use Rattle.channels.specs.Some.{someOf};
 ghost use Rattle.channels.specs.Doubts.{isNone, entryBefore, tidy};
+ghost use Rattle.provisioning.specs.Provisioning.{allBelow};
 ghost use Rattle.control.specs.Events.{startOf};
 ghost use Rattle.saved.specs.Form.{formOf};
-ghost use Rattle.reload.specs.Reload.{clearingKept, phaseKept, isAt, callKept, slotKept, allBelow, isLost, doubtsKept, reloadOf};
+ghost use Rattle.reload.specs.Reload.{clearingKept, phaseKept, isAt, callKept, slotKept, isLost, doubtsKept, reloadOf};
 
 // T308's deadline and the cause of a call that is being cleared.
 fn is_clearing_kept(last: u64, network: bool, clearing: Clearing) -> bool

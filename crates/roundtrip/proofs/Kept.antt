@@ -11,6 +11,7 @@ use lib.ListN.{length, getD}
 use borrow.Author.Tests.{eq-eqb, ne-eqb, le-leb}
 use Rattle.channels.proofs.Cases.{clash}
 use Rattle.channels.proofs.Some.{some-at}
+use Rattle.provisioning.specs.Provisioning.{allBelow}
 use Rattle.calls.specs.declared.Phase.{Phase}
 use Rattle.calls.specs.declared.Call.{Call}
 use Rattle.calls.specs.declared.Hold.{Hold}
@@ -23,7 +24,7 @@ use Rattle.calls.specs.Calls.{noSlot, named, onPair, isCall, holdsPair}
 use Rattle.calls.proofs.First.{placed, unplaced}
 use Rattle.calls.proofs.Calls.{call-named}
 use Rattle.table.specs.declared.Table.{Table}
-use Rattle.reload.specs.Reload.{phaseKept, isAt, callKept, holdKept, slotKept, allBelow}
+use Rattle.reload.specs.Reload.{phaseKept, isAt, callKept, holdKept, slotKept}
 use Rattle.safety.specs.Tables.{slotAt, HasCall}
 use Rattle.safety.specs.Sound.{PhaseSound, in-N3, in-N6, in-N9, in-N10, by-host, by-timer, Sound}
 use Rattle.safety.proofs.Cases.{beq-same}
@@ -67,6 +68,5 @@ hold-kept t s i Empty h = refl
 hold-kept t s i (Live c) h = call-kept t s i c h
 
 pub sound-kept : (t : Table) → Sound t → (n : ℕ) → allBelow (slotKept t) n ≡ true
-unfolding allBelow
 sound-kept t s zero = refl
 sound-kept t s (suc n) = rw (sound-kept t s n) (hold-kept t s n (slotAt t n .hold) refl)

@@ -14,8 +14,8 @@ use lib.ListN.{length, getD, List·getD-eq-default}
 use borrow.Author.Tests.{le-leb, lt-ltb, le-ltb, ltb-true, ltb-false, leb-true, eqb-true, eqb-false}
 use Rattle.channels.specs.Channels.{noRange}
 use Rattle.channels.proofs.Cases.{by-test, both}
-use Rattle.provisioning.specs.Provisioning.{rangeAt, singleAt, entryAt, rangeOk, rangesOk, pairsOk, numbered}
-use Rattle.provisioning.proofs.Ascending.{ascending-fits}
+use Rattle.provisioning.specs.Provisioning.{rangeAt, singleAt, entryAt, rangeOk, fits, rangesOk, pairsOk, numbered}
+use Rattle.provisioning.proofs.Below.{below-at}
 use Rattle.provisioning.proofs.Accepted.{Limits, limits, ranges-lists}
 use Rattle.fields.specs.Fields.{two, rangeOctets, entryOctets}
 use Rattle.saved.specs.Form.{joined}
@@ -147,7 +147,7 @@ pairs-whole s e =
     let b = both (leb (length s / 2) 8) _ (a .1) in
     let whole : length s % 2 ≡ 0 = eqb-true (length s % 2) 0 (a .0) in
     let each : (j : ℕ) → j < length s / 2 → Limits (singleAt s j) =
-    λ j h. limits (singleAt s j) ((both (rangeOk (singleAt s j)) _ (ascending-fits (singleAt s) (length s / 2) j (b .1) h)) .0) in
+    λ j h. limits (singleAt s j) ((both (rangeOk (singleAt s j)) _ (below-at (fits (singleAt s)) (length s / 2) j (b .1) h)) .0) in
     record {
       whole = whole;
       few = leb-true _ _ (b .0);

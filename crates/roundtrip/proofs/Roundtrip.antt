@@ -18,7 +18,7 @@ use Rattle.octets.specs.Octets.{equal}
 use Rattle.octets.proofs.Equal.{same-equal}
 use Rattle.traffic.specs.Traffic.{member}
 use Rattle.channels.proofs.Cases.{by-test, clash}
-use Rattle.provisioning.specs.Provisioning.{provision}
+use Rattle.provisioning.specs.Provisioning.{allBelow, provision}
 use Rattle.calls.specs.declared.Phase.{Phase}
 use Rattle.calls.specs.declared.Hold.{Hold}
 use Rattle.calls.specs.declared.Hold.the-variants.{Empty, Live}
@@ -32,7 +32,7 @@ use Rattle.control.specs.Events.{startOf}
 use Rattle.control.specs.Happens.{Event, happens, after}
 use Rattle.saved.specs.Form.{formOf}
 use Rattle.reading.specs.Reading.{rangeNumbers, pairNumbers, tableIn}
-use Rattle.reload.specs.Reload.{slotKept, allBelow, isForm, reloadIn, reloadOf, doubtsKept}
+use Rattle.reload.specs.Reload.{slotKept, isForm, reloadIn, reloadOf, doubtsKept}
 use Rattle.reload.specs.Reached.{Beginning, start, reload, begun, Reached}
 use Rattle.safety.specs.Tables.{slotAt}
 use Rattle.safety.specs.FixedAnswers.{labelOf, readingOf, roomOf}

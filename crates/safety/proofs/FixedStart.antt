@@ -15,7 +15,7 @@ use borrow.Author.Tests.{eqb-true, eq-eqb, ne-eqb, leb-true, le-leb, ltb-true, l
 use Rattle.channels.specs.declared.Range.{Range}
 use Rattle.channels.proofs.Cases.{by-test, both}
 use Rattle.provisioning.specs.Provisioning.{rangeAt, singleAt, rangeOk, apart, fits, ascending, rangesOk, pairsOk, provision}
-use Rattle.provisioning.proofs.Ascending.{ascending-fits}
+use Rattle.provisioning.proofs.Below.{below-at}
 use Rattle.provisioning.proofs.Accepted.{accepted-lists}
 use Rattle.control.specs.Events.{startOf}
 use Rattle.safety.specs.FixedAnswers.{Limits, Apart, RangeRules, PairRules, FixedStart}
@@ -57,8 +57,8 @@ module _ (at : ℕ → Range) where
 
   pub ascends : (n : ℕ) → ascending at n ≡ true → Ascend n
   ascends n e = record {
-    limits = λ k below. ok-limits (at k) ((both (rangeOk (at k)) _ (ascending-fits at n k e below)) .0);
-    ascend = λ k below. fits-next k (ascending-fits at n (suc k) e below);
+    limits = λ k below. ok-limits (at k) ((both (rangeOk (at k)) _ (below-at (fits at) n k e below)) .0);
+    ascend = λ k below. fits-next k (below-at (fits at) n (suc k) e below);
   }
 
   next-fits : (k : ℕ) → Ascend (suc k) → fits at k ≡ true

@@ -5,7 +5,7 @@
 --   form-sound               a table that a form is read as
 --   reload-in, reload-form, reload-sound     a reload that is accepted
 -- Over the number of slots. Assumes nothing.
-use Prim.Native.Nat.{ℕ, zero, suc, _+_, _≤_, _<_}
+use Prim.Native.Nat.{ℕ, zero, suc, _+_, _≤_}
 use mathlib.Core.Path.{_≡_, refl, sym, ap, _∙_}
 use mathlib.Core.Logic.{_≢_}
 use mathlib.Core.Bool.{Bool, true, false, cond, not, _&&_}
@@ -23,7 +23,8 @@ use Rattle.octets.proofs.Equal.{equal-same}
 use Rattle.traffic.specs.Traffic.{member}
 use Rattle.channels.specs.Channels.{permitted, inRanges, isPair, isEntry, among}
 use Rattle.channels.proofs.Cases.{by-test, clash, both}
-use Rattle.provisioning.specs.Provisioning.{provision, entryAt, numbered}
+use Rattle.provisioning.specs.Provisioning.{allBelow, provision, entryAt, numbered}
+use Rattle.provisioning.proofs.Below.{below-at}
 use Rattle.provisioning.proofs.Accepted.{provision-pair}
 use Rattle.calls.specs.declared.Clearing.{Clearing}
 use Rattle.calls.specs.declared.Phase.{Phase}
@@ -38,7 +39,7 @@ use Rattle.table.specs.declared.Table.{Table}
 use Rattle.outcome.specs.Refusals.{largestReading, hostCauses}
 use Rattle.saved.specs.Form.{formOf}
 use Rattle.reading.specs.Reading.{rangeNumbers, pairNumbers, rest, behindSlot, slotsIn, tableIn, doubtNumbers}
-use Rattle.reload.specs.Reload.{phaseKept, isAt, callKept, slotKept, allBelow, isForm, reloadIn, reloadOf, channelLost, isLost, doubtsKept}
+use Rattle.reload.specs.Reload.{phaseKept, isAt, callKept, slotKept, isForm, reloadIn, reloadOf, channelLost, isLost, doubtsKept}
 use Rattle.safety.specs.Tables.{HasSlots, HasCall}
 use Rattle.safety.specs.Sound.{PhaseSound, in-N3, in-N6, in-N9, in-N10, by-host, by-timer, Sound}
 use Rattle.safety.proofs.Cases.{neither, one-place}
@@ -52,15 +53,6 @@ pub slots-counted : (slot n : ℕ) (f : List ℕ) → length (slotsIn slot f n) 
 unfolding slotsIn
 slots-counted slot zero f = refl
 slots-counted slot (suc n) f = ap suc (slots-counted (slot + 1) n (behindSlot slot f))
-
-below-at : (p : ℕ → Bool) (n i : ℕ) → allBelow p n ≡ true → i < n → p i ≡ true
-unfolding allBelow
-below-at p zero i e h = absurd (omega arith)
-below-at p (suc n) i e h =
-    let parts = both (allBelow p n) (p n) e in
-    by-test (eqb i n)
-    (λ y. rw (eqb-true i n y) (parts .1))
-    (λ z. let apart : i ≢ n = eqb-false i n z in below-at p n i (parts .0) (omega (arith, apart)))
 
 -- what a kept call has
 pub record Kept (t : Table) (i : ℕ) (c : Call) : Type 0 where

@@ -7,8 +7,8 @@ use mathlib.Core.Path.{_≡_, refl, sym, _∙_}
 use mathlib.Core.Bool.{true}
 use lib.ListN.{length}
 use borrow.Author.Tests.{not-true, not-false}
-use Rattle.provisioning.specs.Provisioning.{rangeAt, ascending}
-use Rattle.provisioning.proofs.Ascending.{ascending-more, not-ascending}
+use Rattle.provisioning.specs.Provisioning.{rangeAt, fits, ascending}
+use Rattle.provisioning.proofs.Below.{below-more, not-below}
 use Rattle.provisioning.proofs.ranges_ascend.Statement.{statement}
 use Rattle.provisioning.proofs.ranges_ascend.Tie as tie
 
@@ -28,7 +28,7 @@ returns : tie.Need-returns Inv-loop μ-loop
 returns c =
     let l = c .before .before .before in
     let s = l .before .before .args .s .now in
-    sym (not-ascending (rangeAt s) (length s / 3) (l .loop .k) (omega arith) (sym (c .before .range-fits .ensures) ∙ not-true _ (c .if1 .taken)))
+    sym (not-below (fits (rangeAt s)) (length s / 3) (l .loop .k) (omega arith) (sym (c .before .range-fits .ensures) ∙ not-true _ (c .if1 .taken)))
 
 add-k : tie.Need-add-k Inv-loop μ-loop
 add-k c = search needs
@@ -39,7 +39,7 @@ loop-less c = search needs
 loop-again : tie.Need-loop-again Inv-loop μ-loop
 loop-again c =
     let l = c .before .before .before in
-    (search needs, ascending-more (rangeAt (l .before .before .args .s .now)) (l .loop .k) (l .loop .inv .1) (sym (c .before .range-fits .ensures) ∙ not-false _ (c .if1 .left)))
+    (search needs, below-more (fits (rangeAt (l .before .before .args .s .now))) (l .loop .k) (l .loop .inv .1) (sym (c .before .range-fits .ensures) ∙ not-false _ (c .if1 .left)))
 
 returns-2 : tie.Need-returns-2 Inv-loop μ-loop
 returns-2 c =

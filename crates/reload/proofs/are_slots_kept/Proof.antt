@@ -2,11 +2,12 @@
 -- Assumes nothing.
 use native.Mathlib.Omega.{arith}
 use Prim.Native.Nat.{_-_, _≤_}
-use mathlib.Core.Path.{_≡_, sym, _∙_}
+use mathlib.Core.Path.{_≡_, refl, sym, ap, _∙_}
 use mathlib.Core.Bool.{true}
 use borrow.Author.Tests.{not-true, not-false}
-use Rattle.reload.specs.Reload.{slotKept, allBelow}
-use Rattle.reload.proofs.Walk.{none-below, below-more, not-below}
+use Rattle.provisioning.specs.Provisioning.{allBelow}
+use Rattle.provisioning.proofs.Below.{below-more, not-below}
+use Rattle.reload.specs.Reload.{slotKept}
 use borrow.Author.Needs.{needs}
 use Rattle.reload.proofs.are_slots_kept.Statement.{statement}
 use Rattle.reload.proofs.are_slots_kept.Tie as tie
@@ -18,7 +19,7 @@ abbrev μ-loop : tie.MeasureT-loop
 μ-loop table i₀ i = 32 - i
 
 loop-holds : tie.Need-loop-holds Inv-loop μ-loop
-loop-holds c = (search needs, search needs, none-below _)
+loop-holds c = (search needs, search needs, refl)
 
 is-slot-kept-requires : tie.Need-is-slot-kept-requires Inv-loop μ-loop
 is-slot-kept-requires c κs = search needs
@@ -46,7 +47,7 @@ returns-2 : tie.Need-returns-2 Inv-loop μ-loop
 returns-2 c =
     let l = c .before in
     let all : l .loop .i ≡ 32 = omega arith in
-    sym (rw (← all) (l .loop .inv .2))
+    sym (sym (ap (allBelow (slotKept (l .before .args .table))) all) ∙ l .loop .inv .2)
 
 pub are-slots-kept-spec : {M : Type 1} → statement M
 are-slots-kept-spec =
