@@ -2,8 +2,9 @@
 //   Marks, read_marks      which of a range's first VCIs are taken: the pairs are read once
 //   Finding, find_free     the lowest free permitted pair by VPCI and then VCI, and how many pairs were read to find it
 //   lowest_free            the pair alone
-// Pairs that calls hold, pairs in doubt and permanent ones are read by `mark_held`, `mark_doubts` and `mark_permanents`
-// alone, and these step the count at each. No public function has a `requires`; these three ask that the count has room.
+// A place of a list of pairs is read by `mark_one` alone, which steps the count; `mark_held`, `mark_doubts` and
+// `mark_permanents` hand it each place of their list. No public function has a `requires`; these four ask that the count
+// has room: at most 104 before a list, and fewer than 104 more within it.
 // Assumes nothing.
 use channels::Channel;
 use channels::Doubts;
@@ -12,9 +13,9 @@ use channels::Held;
 use channels::Pool;
 use channels::Range;
 ghost use mathlib.Core.Path.{_≡_};
-ghost use Prim.Native.Nat.{_≤_};
+ghost use Prim.Native.Nat.{_≤_, _<_};
 ghost use Rattle.channels.specs.Channels.{taken, lowest};
-ghost use Rattle.search.specs.Search.{pairsOf, offsetIn, marking, marksOf, nearLast, searched};
+ghost use Rattle.search.specs.Search.{pairsOf, offsetIn, markOne, marking, marksOf, nearLast, searched};
 
 // One mark for each of the 105 VCIs from a range's first: if its pair is taken. There are at most 104 taken pairs, so not
 // all marks are set. Beside them, how many places of a list of pairs were read.
@@ -48,6 +49,18 @@ fn offset_in(range: Range, entry: Entry) -> usize
     }
 }
 
+// Reads one place: the mark of its pair is set if it has one, and the count is stepped.
+fn mark_one(range: Range, entry: Entry, on: &mut [bool], reads: u32) -> u32
+    requires { ⌜ reads < 208 ⌝ }
+    ensures { λ r. ⌜ _≡_ {A = Marks} (record { on = now (on .exit); reads = r }) (markOne range entry (record { on = now (on .entry); reads = reads })) ⌝ }
+{
+    let offset = offset_in(range, entry);
+    if offset < on.len() {
+        on[offset] = true;
+    }
+    reads + 1
+}
+
 // Reads each pair that a call holds once.
 fn mark_held(range: Range, held: Held, marks: Marks) -> Marks
     requires { ⌜ marks .reads ≤ 104 ⌝ }
@@ -58,11 +71,7 @@ fn mark_held(range: Range, held: Held, marks: Marks) -> Marks
     let mut i: usize = 0;
     while i < 32 {
         let entry = held.entries[i];
-        reads += 1;
-        let offset = offset_in(range, entry);
-        if offset < 105 {
-            on[offset] = true;
-        }
+        reads = mark_one(range, entry, &mut on, reads);
         i += 1;
     }
     Marks {
@@ -81,11 +90,7 @@ fn mark_doubts(range: Range, doubts: Doubts, marks: Marks) -> Marks
     let mut i: usize = 0;
     while i < 64 {
         let entry = doubts.entries[i];
-        reads += 1;
-        let offset = offset_in(range, entry);
-        if offset < 105 {
-            on[offset] = true;
-        }
+        reads = mark_one(range, entry, &mut on, reads);
         i += 1;
     }
     Marks {
@@ -104,11 +109,7 @@ fn mark_permanents(range: Range, pool: Pool, marks: Marks) -> Marks
     let mut i: usize = 0;
     while i < 8 {
         let entry = pool.permanents[i];
-        reads += 1;
-        let offset = offset_in(range, entry);
-        if offset < 105 {
-            on[offset] = true;
-        }
+        reads = mark_one(range, entry, &mut on, reads);
         i += 1;
     }
     Marks {

@@ -1,33 +1,26 @@
 -- `mark_doubts` meets its contract. The loop's invariant: the pairs passed are marked and counted.
 -- Assumes nothing.
 use borrow.Author.Needs.{needs}
-use Prim.Native.Nat.{ℕ, _-_, _≤_}
+use Prim.Native.Nat.{_-_}
 use native.Mathlib.Omega.{arith}
-use mathlib.Core.Path.{_≡_, sym, ap, _∙_}
-use mathlib.Core.Logic.{⊎-elim}
-use mathlib.Core.Bool.{true}
-use lib.ListN.{length, getD, set, length-map}
-use Rattle.channels.specs.Channels.{noEntry}
-use Rattle.search.specs.Search.{offsetIn}
-use Rattle.search.proofs.Pass.{Passed, passed-none, marks-kept, passed-on, passed-end}
+use lib.ListN.{length-map}
+use Rattle.search.specs.Search.{near}
+use Rattle.search.proofs.Pass.{Passed, passed-none, passed-room, passed-on, passed-end}
 use Rattle.search.proofs.mark_doubts.Statement.{statement}
 use Rattle.search.proofs.mark_doubts.Tie as tie
 
 abbrev Inv-loop : tie.InvT-loop
 Inv-loop range doubts on₀ reads₀ i₀ on reads i =
-    (i ≤ 64) × (length (doubts .entries) ≡ 64) × (reads₀ ≤ 104) × Passed range (doubts .entries) on₀ reads₀ i on reads
+    Passed range (doubts .entries) 64 (record { on = on₀; reads = reads₀ }) i (record { on = on; reads = reads })
 
 abbrev μ-loop : tie.MeasureT-loop
-μ-loop range doubts on₀ reads₀ i₀ on reads i = 64 - i
+μ-loop range doubts on₀ reads₀ i₀ on reads i = near - i
 
 loop-holds : tie.Need-loop-holds Inv-loop μ-loop
 loop-holds c =
-    let a = c .before .args in (
-      search needs,
-      simp length-map at (c .before .good .1 .0 .1 .1 .0 .1 .0 .1),
-      search needs,
-      passed-none (a .range) (a .t2 .entries) (a .marks .on) (a .marks .reads) (simp length-map at (c .before .good .1 .1 .0 .1 .1 .0 .1 .0 .1)),
-    )
+    let a = c .before .args in
+    passed-none (a .range) (a .t2 .entries) (a .marks) (simp length-map at (c .before .good .1 .0 .1 .1 .0 .1 .0 .1))
+    (simp length-map at (c .before .good .1 .1 .0 .1 .1 .0 .1 .0 .1)) (search needs)
 
 mul-entry : tie.Need-mul-entry Inv-loop μ-loop
 mul-entry c = search needs
@@ -35,18 +28,11 @@ mul-entry c = search needs
 element-copy-out-entry : tie.Need-element-copy-out-entry Inv-loop μ-loop
 element-copy-out-entry c = search needs
 
-add-reads : tie.Need-add-reads Inv-loop μ-loop
-add-reads c =
-    let l = c .before .before in
-    let few = l .loop .inv .2 in
-    let count = l .loop .inv .3 .count in
-    omega arith
+slice-aggregate-mark-one : tie.Need-slice-aggregate-mark-one Inv-loop μ-loop
+slice-aggregate-mark-one c = search needs
 
-offset-in-requires : tie.Need-offset-in-requires Inv-loop μ-loop
-offset-in-requires c κs = search needs
-
-array-write-on : tie.Need-array-write-on Inv-loop μ-loop
-array-write-on c = search needs
+mark-one-requires : tie.Need-mark-one-requires Inv-loop μ-loop
+mark-one-requires c κs = passed-room (c .before .before .before .loop .inv) (omega arith)
 
 add-i : tie.Need-add-i Inv-loop μ-loop
 add-i c = search needs
@@ -55,20 +41,10 @@ loop-less : tie.Need-loop-less Inv-loop μ-loop
 loop-less c = search needs
 
 loop-again : tie.Need-loop-again Inv-loop μ-loop
-loop-again c =
-    let l = c .before .before .before .before in
-    let a = l .before .before .args in
-    let p = l .loop .inv .3 in
-    let e = c .before .offset-in .ensures in
-    let next : c .if1 .on ≡ set (l .loop .on) (offsetIn (a .range) (getD (a .t2 .entries) (l .loop .i) noEntry)) true =
-    ⊎-elim
-    (λ w. w .1 ∙ ap (λ (k : ℕ). set (l .loop .on) k true) e)
-    (λ w. w .1 ∙ sym (marks-kept p (rw e at (w .0 .left))))
-    (c .if1 .came) in
-    (search needs, l .loop .inv .1, l .loop .inv .2, passed-on (c .if1 .on) p (omega arith) next)
+loop-again c = passed-on (c .before .before .before .before .before .loop .inv) (omega arith) (c .before .mark-one .ensures)
 
 returns : tie.Need-returns Inv-loop μ-loop
-returns c = passed-end (c .before .loop .inv .3) (omega arith)
+returns c = passed-end (c .before .loop .inv) (omega arith)
 
 pub mark-doubts-spec : {M : Type 1} → statement M
 mark-doubts-spec =
@@ -79,9 +55,8 @@ mark-doubts-spec =
     loop-holds
     mul-entry
     element-copy-out-entry
-    add-reads
-    offset-in-requires
-    array-write-on
+    slice-aggregate-mark-one
+    mark-one-requires
     add-i
     loop-less
     loop-again
