@@ -29,6 +29,7 @@ fn put_two(room: &mut [u8], at: usize, n: u16) -> usize
 pub fn put_eight(room: &mut [u8], at: usize, n: u64) -> usize
     requires { ⌜ at + 8 ≤ length (now room) ⌝ }
     ensures { λ r. ⌜ Wrote (now (room .entry)) at (eight n) (now (room .exit)) r ⌝ }
+    ensures next { λ r. ⌜ r ≡ at + length (eight n) ⌝ }
 {
     let a = n / 281474976710656;
     let b = n / 4294967296;
@@ -53,6 +54,7 @@ pub fn put_eight(room: &mut [u8], at: usize, n: u64) -> usize
 pub fn put_field(room: &mut [u8], at: usize, tag: u8, contents: &[u8]) -> usize
     requires { ⌜ at + 3 + length (now contents) ≤ length (now room) ⌝ }
     ensures { λ r. ⌜ Wrote (now (room .entry)) at (field tag (now (contents .entry))) (now (room .exit)) r ⌝ }
+    ensures next { λ r. ⌜ r ≡ at + length (field tag (now (contents .entry))) ⌝ }
 {
     let size = contents.len();
     let high = (size / 256 % 256) as u8;
@@ -65,7 +67,7 @@ pub fn put_field(room: &mut [u8], at: usize, tag: u8, contents: &[u8]) -> usize
 pub fn put_range(room: &mut [u8], at: usize, range: Range) -> usize
     requires { ⌜ at + 6 ≤ length (now room) ⌝ }
     ensures { λ r. ⌜ Wrote (now (room .entry)) at (rangeOctets range) (now (room .exit)) r ⌝ }
-    ensures short { λ r. ⌜ r ≤ at + 6 ⌝ }
+    ensures short { λ r. ⌜ (r ≡ at + length (rangeOctets range)) × (r ≤ at + 6) ⌝ }
 {
     if range.last < range.first {
         return at;
@@ -79,7 +81,7 @@ pub fn put_range(room: &mut [u8], at: usize, range: Range) -> usize
 pub fn put_channel(room: &mut [u8], at: usize, channel: Channel) -> usize
     requires { ⌜ at + 4 ≤ length (now room) ⌝ }
     ensures { λ r. ⌜ Wrote (now (room .entry)) at (channelOctets channel) (now (room .exit)) r ⌝ }
-    ensures short { λ r. ⌜ r ≤ at + 4 ⌝ }
+    ensures short { λ r. ⌜ (r ≡ at + length (channelOctets channel)) × (r ≤ at + 4) ⌝ }
 {
     match channel {
         Channel::None => at,
@@ -162,7 +164,7 @@ fn put_call(room: &mut [u8], at: usize, slot: u8, call: Call) -> usize
 pub fn put_hold(room: &mut [u8], at: usize, slot: u8, hold: Hold) -> usize
     requires { ⌜ at + 22 ≤ length (now room) ⌝ }
     ensures { λ r. ⌜ Wrote (now (room .entry)) at (holdField slot hold) (now (room .exit)) r ⌝ }
-    ensures short { λ r. ⌜ r ≤ at + 22 ⌝ }
+    ensures short { λ r. ⌜ (r ≡ at + length (holdField slot hold)) × (r ≤ at + 22) ⌝ }
 {
     match hold {
         Hold::Empty => at,

@@ -18,7 +18,7 @@ put-two-requires-2 : tie.Need-put-two-requires-2
 put-two-requires-2 c κs = search needs
 
 returns : tie.Need-returns
-returns c = (rw (c .enum-told .given .1) (wrote-none _ _), omega arith)
+returns c = rw (c .enum-told .given .1) (wrote-none _ _, (omega arith, omega arith))
 
 same-length : tie.Need-same-length
 same-length c = search needs
@@ -27,7 +27,8 @@ returns-2 : tie.Need-returns-2
 returns-2 c =
     let v = c .before .before in
     let p = v .before .before .before .before in
-    (rw (p .before .before .before .channel .given .1) (chain (p .put-two .ensures) (v .put-two2 .ensures)), omega arith)
+    let w = chain (p .put-two .ensures) (v .put-two2 .ensures) in
+    rw (p .before .before .before .channel .given .1) (w, (w .past, omega arith))
 
 pub put-channel-spec : {M : Type 1} → statement M
 put-channel-spec =

@@ -25,7 +25,8 @@ same-length c = search needs
 returns : tie.Need-returns
 returns c =
     let b = c .before .before in
-    chain (b .before .before .before .before .put .ensures .1) (b .put2 .ensures .1)
+    let w = chain (b .before .before .before .before .put .ensures .1) (b .put2 .ensures .1) in
+    (w, w .past)
 
 pub put-field-spec : {M : Type 1} → statement M
 put-field-spec =

@@ -29,7 +29,7 @@ put-field-requires : tie.Need-put-field-requires
 put-field-requires c κs = simp length-take (omega arith)
 
 returns : tie.Need-returns
-returns c = (rw (c .enum-told .given .1) (wrote-none _ _), omega arith)
+returns c = rw (c .enum-told .given .1) (wrote-none _ _, (omega arith, omega arith))
 
 same-length : tie.Need-same-length
 same-length c = search needs
@@ -38,8 +38,8 @@ returns-2 : tie.Need-returns-2
 returns-2 c =
     let f = c .before .before in
     let w = f .before .before .before .before in
-    let r = filed (w .put-call .ensures .0) (omega arith) (f .put-field .ensures) in
-    (rw (w .before .before .before .hold .given .1) r, omega (arith, w .put-call .ensures .0 .past, r .past))
+    let r = filed (w .put-call .ensures .0) (omega arith) (f .put-field .ensures .0) in
+    rw (w .before .before .before .hold .given .1) (r, (r .past, omega (arith, w .put-call .ensures .0 .past, r .past)))
 
 pub put-hold-spec : {M : Type 1} → statement M
 put-hold-spec =

@@ -7,7 +7,7 @@ use Rattle.fields.proofs.put_range.Statement.{statement}
 use Rattle.fields.proofs.put_range.Tie as tie
 
 returns : tie.Need-returns
-returns c = (rw (lt-leb _ _ (c .if1 .taken)) (wrote-none _ _), omega arith)
+returns c = rw (lt-leb _ _ (c .if1 .taken)) (wrote-none _ _, (omega arith, omega arith))
 
 put-two-requires : tie.Need-put-two-requires
 put-two-requires c κs = search needs
@@ -26,7 +26,8 @@ returns-2 c =
     let l = c .before .before in
     let f = l .before .before .before .before in
     let p = f .before .before .before .before in
-    (rw (le-leb _ _ (p .before .before .if1 .left)) (chain (p .put-two .ensures) (chain (f .put-two2 .ensures) (l .put-two3 .ensures))), omega arith)
+    let w = chain (p .put-two .ensures) (chain (f .put-two2 .ensures) (l .put-two3 .ensures)) in
+    rw (le-leb _ _ (p .before .before .if1 .left)) (w, (w .past, omega arith))
 
 pub put-range-spec : {M : Type 1} → statement M
 put-range-spec =
