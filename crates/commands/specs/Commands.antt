@@ -31,12 +31,12 @@ abbrev pub cleared : Table → ℕ → ℕ → ℕ → Hold → Effect
 cleared t reading slot cause Empty = quiet (t .slots)
 cleared t reading slot cause (Live c) = onSlot (t .slots) slot (not (c .network)) (c .reference) (released reading false cause false)
 
--- "offer: lowest empty slot, lowest free pair, lowest network-originated reference value from 1 not in use; SETUP with 5A and then
--- the body; N6, T303." "T303 4,000 ms" "An accepted offer also answers notice 1."
+-- "offer: .. N6, T303." "T303 4,000 ms"
 abbrev pub networkCall : ℕ → ℕ → ℕ → ℕ → Call
 networkCall reading r p v = record { network = true; reference = r; vpci = p; vci = v; phase = N6 (reading + 4000) }
 
--- (no pair was refused before, with 12: this case is never asked)
+-- "offer: lowest empty slot, lowest free pair, lowest network-originated reference value from 1 not in use; SETUP with 5A and then
+-- the body" "An accepted offer also answers notice 1." (no pair was refused before, with 12: this case is never asked)
 abbrev pub offeredOn : Table → ℕ → List ℕ → ℕ → Channel → Outcome
 offeredOn t reading body i None = refusedWith t 12
 offeredOn t reading body i (Pair p v) =

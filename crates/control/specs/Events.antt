@@ -1,6 +1,7 @@
 -- The six events (document 01, "One school, network side" and "Host and timers").
 --   startOf, messageOf, tickOf, connectOf, clearOf, offerOf
--- Each is the whole answer, the table and the reply, on any input. What is refused is in outcome, what connect, clear and offer
+--   heardBy, offered     what an accepted message does; an offer with its slot
+-- Each event is the whole answer, the table and the reply, on any input. What is refused is in outcome, what connect, clear and offer
 -- do in commands. Assumes nothing.
 use Prim.Native.Nat.{ℕ}
 use mathlib.Core.Bool.{cond}

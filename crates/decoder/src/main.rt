@@ -2,7 +2,7 @@
 // `stdin` is the table, and `stdout` what an independent decoder, which shares no code with this one, writes for it.
 //   hex         lines of the table, and the octets that a line's digits give
 //   found       prints what is found of each element
-// All that is printed of a message, but for which step ignores it, comes from `header`, `elements`, `contents` and `setup`.
+// All that is printed of a message, but for which step ignores it, comes from `header`, `elements`, `traffic` and `setup`.
 // Proved: safe and ending; lines and octets exact. The table has under 65,536 characters. Assumes nothing of its own.
 mod found;
 mod hex;

@@ -1,10 +1,11 @@
 -- What an accepted event does to the slots of calls and to the doubts: one value, from which the answer is read off.
---   fated                  a slot after its call's fate
---   noFlags, flagsAt       no flag, and the flag of one slot
---   quiet, replying        nothing happens; a reply alone
+--   slotCount              how many slots the table has
+--   turnedHold, fated      a slot after its call went to another state, and after its call's fate
+--   noFlags, flagsAt, flagged      no flag; the flag of one slot; that with a notice alone
+--   replying, quiet        a reply alone; nothing happens
 --   onSlot                 a verdict performed on the call of one slot
 --   assigned               a call put into an empty slot
---   afterGone              some calls are gone, and doubts may end
+--   isSet, goneNotice, afterGone   some calls are gone, and doubts may end
 --   doubtOf, doubting      the doubt that a timer begins; what an effect does to the doubts
 -- Assumes nothing.
 use Prim.Native.Nat.{ℕ}

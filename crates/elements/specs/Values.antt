@@ -1,4 +1,5 @@
 -- The values of a message's elements, each absent, unreadable, or what readable contents say.
+--   read             a value for each thing that can be found
 --   causeIn          08 Cause: the cause number
 --   callStateIn      14 Call state: the state
 --   connectionIn     5A Connection identifier: VPCI and VCI

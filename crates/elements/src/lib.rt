@@ -1,6 +1,7 @@
 // What is found of an identifier among elements, and the values of a message's elements.
-//   action_fits, look_for         absent, unreadable, or where the readable contents are
-//   cause, call_state, traffic, connection, bearer, restart      what one element says
+//   action_fits, Look, look_for   absent, unreadable, or where the readable contents are
+//   cause, call_state, traffic, connection, bearer, restart      what one element says, as a `CauseRead`, `CallStateRead`,
+//                                 `Look`, `ConnectionRead`, `BearerRead`, `RestartRead`
 // `m` is any octets, and `from` the place of the first element: 9 in a message, 0 in an offer's body.
 // Nothing has a `requires`. Assumes nothing.
 use items::Item;

@@ -58,7 +58,7 @@ phaseOctets (N12 k) = 12 ∷ (eight (k .deadline) ++ (cond (k .second) 2 1 ∷ k
 abbrev pub callOctets : ℕ → Call → List ℕ
 callOctets slot c = slot ∷ (referenceOctets (c .network) (c .reference) ++ (two (c .vpci) ++ (two (c .vci) ++ phaseOctets (c .phase))))
 
--- "one for each live call in slot order"
+-- a live call's field
 abbrev pub holdField : ℕ → Hold → List ℕ
 holdField slot Empty = []
 holdField slot (Live c) = field 4 (callOctets slot c)

@@ -77,7 +77,7 @@ pub fn put_range(room: &mut [u8], at: usize, range: Range) -> usize
     put_two(room, third, range.last)
 }
 
-// A permanent pair; nothing for none.
+// A pair, permanent or in doubt; nothing for none.
 pub fn put_channel(room: &mut [u8], at: usize, channel: Channel) -> usize
     requires { ⌜ at + 4 ≤ length (now room) ⌝ }
     ensures { λ r. ⌜ Wrote (now (room .entry)) at (channelOctets channel) (now (room .exit)) r ⌝ }

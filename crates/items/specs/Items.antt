@@ -1,6 +1,7 @@
 -- The elements of octets `m`, one after another.
 --   contentLength            how many octets of contents the element at a place says
---   itemAt, items            the element at a place; the elements from a place on
+--   itemAt                   the element at a place
+--   andThen, itemStep, items     one element and what follows it; the elements from a place on
 --   named                    has an element this identifier?
 --   firstOf, countOf         the first element of an identifier; how many there are
 --   endsWhole, wholeFrom     are the octets a whole number of elements?

@@ -1,5 +1,5 @@
 // The elements of octets, one after another.
-//   item_at                the element at a place
+//   Item, item_at          the element at a place
 //   first_of, count        the first element of an identifier; how many there are
 //   whole                  are the octets a whole number of elements?
 // `m` is any octets, and `from` the place of the first element: 9 in a message, 0 in an offer's body.

@@ -1,8 +1,9 @@
 -- The judgement of a message on a live call, on no call and on the global reference.
---   releaseReply, statusVerdict    RELEASE and STATUS on a live call
+--   releaseComplete, releaseReply  RELEASE on a live call
+--   statusVerdict, statusOf        STATUS on a live call; STATUS that we send about one
 --   contentsVerdict                step 6 of an expected message
---   judge                          steps 3 to 6 of a message on a live call
---   noCallReply                    steps 3 to 6 of a message on no call, other than SETUP
+--   judgedAs, judge                steps 3 to 6 of a message on a live call
+--   statusReply, noCallReply       steps 3 to 6 of a message on no call, other than SETUP
 --   globalReply                    step 3 of a message on the global reference, other than RESTART with flag 0
 -- Assumes nothing.
 use Prim.Native.Nat.{ℕ, _+_}
@@ -30,7 +31,7 @@ use Rattle.judging.specs.declared.Kind.{Kind}
 use Rattle.judging.specs.declared.Kind.the-variants as kind
 use Rattle.judging.specs.Class.{classify}
 
--- "RELEASE COMPLETE: no element, or 96 or 100 with 08 if Cause is absent or unreadable."
+-- "Else gone, RELEASE COMPLETE: no element, or 96 or 100 with 08 if Cause is absent or unreadable."
 abbrev pub releaseComplete : CauseRead → Reply
 releaseComplete causeRead.Absent = reply.ReleaseCompleteWith (because 96 (diagnostic.Octet 0x08))
 releaseComplete causeRead.Unreadable = reply.ReleaseCompleteWith (because 100 (diagnostic.Octet 0x08))
@@ -54,7 +55,8 @@ statusVerdict (callStateRead.Value s) = cond (eqb s 0) (ended reply.None) silent
 abbrev pub statusOf : Phase → ℕ → Diagnostic → Reply
 statusOf phase n d = reply.Status (stateNumber phase) (because n d)
 
--- "6. Contents." Of CALL PROCEEDING: T310 is 10,000 ms
+-- "6. Contents." "CALL PROCEEDING: N6 to N9, T310." ("T310 10,000") "CONNECT: N6 or N9 to N10, reply CONNECT ACKNOWLEDGE, notice 2."
+-- "CONNECT ACKNOWLEDGE: N10, nothing." "RELEASE COMPLETE: gone." RELEASE, STATUS ENQUIRY and STATUS as above
 abbrev pub contentsVerdict : Kind → List ℕ → Phase → ℕ → Verdict
 contentsVerdict kind.CallProceeding m phase reading = turned (N9 (reading + 10000)) reply.None 0
 contentsVerdict kind.Connect m phase reading = turned N10 reply.ConnectAcknowledge 2

@@ -1,5 +1,7 @@
 -- The outcome of an event: the answer with the table afterwards, and the reply's octets.
 --   Outcome        what the host gets, and what stands at the front of its room
+--   effectReply    the octets of an effect's reply
+--   stored, settled, sending    the table afterwards; the answer with it; that with the octets that are sent
 --   refusedWith    "A refusal answers reply length 0, notice 0 and no flags; table, last reading and reply room stay unchanged."
 --   acceptedAs     "An accepted event stores its reading"
 --   unlessRefused  a refusal number decides

@@ -1,7 +1,11 @@
 -- The refusal numbers (document 01, "Refusal numbers"): "The lowest number that applies is given, and none otherwise."
---   orElse              a refusal, or else the next one
---   commonRefusal       1 to 4, of every event but start
---   messageRefusal, connectRefusal, clearRefusal, offerRefusal
+--   orElse                                  a refusal, or else the next one
+--   largestReading, commonRefusal           1 to 4, of every event but start
+--   sizeRefusal, messageRefusal             5
+--   holdAt, Within                          what a slot holds
+--   notN3, unconnectable, connectRefusal    6 and 7 of connect
+--   inN12, unclearable, hostCauses, causeRefusal, clearRefusal      6 to 8 of clear
+--   bodyRefusal, slotRefusal, pairRefusal, offerRefusal             10 to 12
 -- 0 says that nothing is refused. Assumes nothing.
 use Prim.Native.Nat.{ℕ, _<_}
 use mathlib.Core.Bool.{cond}

@@ -5,7 +5,7 @@
 --   allBelow                       a test of each number below another
 --   fits, ascending                the k-th of a list of ranges keeps the limits and comes behind the one before it; and so the first n
 --   rangesOk, pairsOk              a list that breaks no rule
---   poolOf, refused, provision     what start makes of its lists
+--   numbered, poolOf, refused, provision     what start makes of its lists
 -- Assumes nothing.
 use Prim.Native.Nat.{ℕ, zero, suc, _+_, _-_, _*_, _/_, _%_}
 use mathlib.Core.Bool.{Bool, true, false, cond, _&&_, _||_}

@@ -2,7 +2,7 @@
 -- what is not a form reads as some table, whose form is another.
 --   twoAt, eightAt            numbers at a place
 --   rest                      the octets behind the first field
---   numbersIn, listIn         numbers of two octets; those of the first field
+--   numbersIn, least, listIn  numbers of two octets; those of the first field, at most so many
 --   rangeNumbers, pairNumbers the two lists, as start takes them
 --   doubtNumbers, entriesIn   the pairs in doubt
 --   clearingIn, phaseIn, referenceIn, callIn     the live call of the first field

@@ -1,6 +1,6 @@
 -- Reloading a table (document 02, R-1): "The reader refuses .. with 9 and gives no table."
---   clearingKept, phaseKept, callKept, slotKept     what document 01 puts together in a slot
---   doubtsKept                        the pairs in doubt
+--   clearingKept, phaseKept, isAt, callKept, holdKept, slotKept     what document 01 puts together in a slot
+--   channelLost, isLost, doubtsKept   the pairs in doubt
 --   isForm                            octets that are the saved form of a table of so many slots that keeps the rules
 --   reloadIn, reloadOf                what reloading answers, for so many slots and for ours
 -- Assumes nothing.

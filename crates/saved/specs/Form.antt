@@ -13,10 +13,13 @@ abbrev pub joined : {A : Type 0} → (A → List ℕ) → List A → List ℕ
 joined f [] = []
 joined f (x ∷ xs) = f x ++ joined f xs
 
+-- "one for each live call in slot order"
 abbrev pub callFields : ℕ → List Slot → List ℕ
 callFields slot [] = []
 callFields slot (s ∷ ss) = holdField slot (s .hold) ++ callFields (slot + 1) ss
 
+-- "one field for the ranges, one for permanent pairs, one for the last reading, one for each live call in slot order"; document 02,
+-- R-2: "Saved forms gain one field, pairs ascending"
 abbrev pub formOf : Table → List ℕ
 formOf t =
     field 1 (joined rangeOctets (t .pool .ranges))

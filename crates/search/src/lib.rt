@@ -2,9 +2,9 @@
 //   Marks, read_marks      which of a range's first VCIs are taken: the pairs are read once
 //   Finding, find_free     the lowest free permitted pair by VPCI and then VCI, and how many pairs were read to find it
 //   lowest_free            the pair alone
-// A place of a list of pairs is read by `mark_one` alone, which steps the count; `mark_held`, `mark_doubts` and
-// `mark_permanents` hand it each place of their list. No public function has a `requires`; these four ask that the count
-// has room: at most 104 before a list, and fewer than 104 more within it.
+// `mark_held`, `mark_doubts` and `mark_permanents` read each place of their list once and hand it to `mark_one`, which
+// steps the count. No public function has a `requires`; `mark_one` asks for a count below 208, the other three for at
+// most 104.
 // Assumes nothing.
 use channels::Channel;
 use channels::Doubts;

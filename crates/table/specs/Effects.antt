@@ -1,10 +1,12 @@
 -- What an accepted message and an accepted tick do to the table (steps 3 to 6, and "Host and timers").
---   userCall               the call that an admitted SETUP makes
---   admitted, setupEffect  SETUP on no call
---   globalEffect           a message on the global reference
---   messageEffect          a message that passed the header checks
---   noRoom                 if there is no room for a doubt
---   tickEffect             the timer that fires
+--   freePair                           the lowest free permitted pair
+--   userCall                           the call that an admitted SETUP makes
+--   onPair, admitted, setupEffect      SETUP on no call: with a pair, with a slot, at all
+--   onNoCall, onHold, addressed        a message that names no live call, or that of a slot
+--   globalEffect                       a message on the global reference
+--   messageEffect                      a message that passed the header checks
+--   noRoom                             if there is no room for a doubt
+--   fireHold, fired, tickEffect        the timer that fires: of what a slot holds, of a slot, of a tick
 -- Assumes nothing.
 use Prim.Native.Nat.{ℕ}
 use mathlib.Core.Bool.{Bool, true, false, not, cond, _&&_}

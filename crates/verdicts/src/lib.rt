@@ -2,7 +2,7 @@
 //   Fate, Verdict             what becomes of a call; that with the reply and the notice
 //   because, plain_cause      a cause with its diagnostic, and one without
 //   answered, turned, ended   the call stays; it goes to another state; it is gone
-//   release, expire           a call is cleared by the host; a timer fires
+//   release, expire           RELEASE is sent, and T308 runs; a timer fires
 //   is_last_t308              if the second T308 runs
 // `release` and `expire` ask for a reading that is not refused. Assumes nothing.
 use calls::Clearing;

@@ -2,7 +2,6 @@
 use borrow.Author.Needs.{needs}
 use borrow.Author.Tests.{lt-ltb, le-ltb}
 use mathlib.Core.Path.{sym, _∙_}
-use mathlib.Core.Path.{sym, _∙_}
 use Rattle.script.proofs.connect.Statement.{statement}
 use Rattle.script.proofs.connect.Tie as tie
 
