@@ -17,4 +17,6 @@ pub mod NoPair
 pub mod Gone
 pub mod Slips
 pub mod Release
+pub mod FlagsNotes
+pub mod FlagsSlots
 pub mod Flags

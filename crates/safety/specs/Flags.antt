@@ -3,7 +3,9 @@
 --   CallAsked, CallAnswered, CallGone    what a flag says of its slot: "1 call asked, 2 call answered, 3 calls gone"
 --   OneFlag                              one flag alone is set, that of the one slot meant
 --   NamesExactly                         a notice and flags say what became of the slots
---   FlagsExact                           of an event on a table
+--   NoNotice                             the events for which no notice is named
+--   TellsAll                             the other way round: what became of a slot has its notice
+--   FlagsExact                           both, of an event on a table
 -- Assumes nothing.
 use Prim.Native.Nat.{ℕ, _≤_}
 use mathlib.Core.Path.{_≡_}
@@ -16,7 +18,7 @@ use Rattle.calls.specs.declared.Flags.{Flags}
 use Rattle.calls.specs.Calls.{moved, noSlot}
 use Rattle.effects.specs.Effect.{slotCount}
 use Rattle.table.specs.declared.Table.{Table}
-use Rattle.control.specs.Happens.{Event, happens}
+use Rattle.control.specs.Happens.{Event, message, tick, connect, clear, offer, happens}
 use Rattle.safety.specs.Tables.{slotAt, HasCall}
 
 abbrev pub flagOf : Flags → ℕ → Bool
@@ -60,5 +62,21 @@ pub record NamesExactly (t u : Table) (notice : ℕ) (f : Flags) : Type 0 where
   pub with-3-all : notice ≡ 3 → (i : ℕ) → CallGone t u i → flagOf f i ≡ true
   pub with-3-some : notice ≡ 3 → (i : ℕ) × (flagOf f i ≡ true)
 
-abbrev pub FlagsExact : Table → Event → Type 0
-FlagsExact t e = NamesExactly t (happens t e .answer .table) (happens t e .answer .notice) (happens t e .answer .flags)
+-- "Where no notice is named it is 0.": for connect and clear none is named
+abbrev pub NoNotice : Event → Type 0
+NoNotice (message label reading room octets) = ⊥
+NoNotice (tick label reading room) = ⊥
+NoNotice (connect label reading room slot) = Unit {0}
+NoNotice (clear label reading room slot cause) = Unit {0}
+NoNotice (offer label reading room body) = ⊥
+
+-- "1 call asked, 2 call answered, 3 calls gone": by connect a call goes to N10 too, but there the host answers it and is told nothing
+pub record TellsAll (t u : Table) (e : Event) (notice : ℕ) : Type 0 where
+  pub asked : (i : ℕ) → CallAsked t u i → notice ≡ 1
+  pub answered : ¬ NoNotice e → (i : ℕ) → CallAnswered t u i → notice ≡ 2
+  pub gone : (i : ℕ) → CallGone t u i → notice ≡ 3
+  pub unnamed : NoNotice e → notice ≡ 0
+
+pub record FlagsExact (t : Table) (e : Event) : Type 0 where
+  pub names : NamesExactly t (happens t e .answer .table) (happens t e .answer .notice) (happens t e .answer .flags)
+  pub tells : TellsAll t (happens t e .answer .table) e (happens t e .answer .notice)
