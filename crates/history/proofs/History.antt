@@ -10,6 +10,7 @@ use mathlib.Core.List.{List, [], _∷_}
 use lib.Dec.{eqb}
 use borrow.Author.Tests.{eqb-true}
 use Rattle.history.proofs.Expiry.{expires}
+use Rattle.history.proofs.Restarting.{restarting}
 use Rattle.channels.specs.Some.{someOf}
 use Rattle.channels.specs.Channels.{among, permitted}
 use Rattle.channels.specs.declared.Pool.{Pool}
@@ -58,6 +59,7 @@ history = record {
   told = λ b accepted es octets p v ok. told-from _ (begun-sound b accepted) es octets p v ok _ refl;
   not-given = λ t p v doubt given. clash doubt ((lowest.free-permitted (heldOf (t .slots .all) .entries) (t .doubts .entries) (t .pool) p v given) .2);
   expiry = λ t r. expires t (reached-sound t r);
+  restarting = λ t r. restarting t (reached-sound t r);
   fresh = λ ranges pairs p v. refl;
   never-two = λ t r p v held doubt. (reached-sound t r) .doubt-not-held p v doubt held;
   only-permitted = λ t r. only-permitted t (reached-sound t r);

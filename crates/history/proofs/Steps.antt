@@ -6,14 +6,13 @@
 -- Assumes nothing.
 use Prim.Native.Nat.{ℕ, _<_}
 use mathlib.Core.Path.{_≡_, refl, sym, ap, _∙_}
-use mathlib.Core.Bool.{Bool, true, false, not, cond, _&&_, _||_, and-false, or-true}
+use mathlib.Core.Bool.{Bool, true, false, not, cond, _&&_, _||_, and-false}
 use mathlib.Core.List.{List, map}
 use native.Mathlib.Omega.{arith}
 use lib.Dec.{eqb, ltb}
 use lib.ListN.{length, set, length-set}
 use lib.Seq.{getD-set-same, getD-set-other}
 use borrow.Author.Tests.{eqb-true, eqb-false}
-use Rattle.octets.specs.Octets.{equal}
 use Rattle.channels.proofs.Lowest as lowest
 use Rattle.calls.proofs.Calls.{held-holds}
 use Rattle.channels.specs.Some.{someOf}
@@ -79,7 +78,7 @@ use Rattle.safety.proofs.Lists.{some-found}
 use Rattle.safety.proofs.Tables.{on-pair, live-within, empty-at}
 use Rattle.safety.proofs.Refusals.{refusalOf}
 use Rattle.safety.proofs.FixedAnswers.{outcomeOf, happens-unless}
-use Rattle.history.specs.History.{wayIn, flaggedOn, assigned, ended, lastOn, isTick, expired, restarted, nextWay}
+use Rattle.history.specs.History.{free, doubtful, wayIn, flaggedOn, assigned, ended, lastOn, isTick, expired, restartHead, isRestart, namesPair, names, restarts, restarted, nextWay}
 use Rattle.history.proofs.Marks.{flagged-at, flagged-apart, some-set, some-emptied, none-emptied, all-told}
 use Rattle.history.proofs.Acknowledged.{saysRestarted, Other, not-acknowledged, setup-not-acknowledged, acknowledged, all-acknowledged, other-pair}
 use Rattle.history.proofs.Verdicts.{Decided, stays, turns, ends, judged-decided, no-call-other, global-other}
@@ -89,7 +88,7 @@ held-by : (p v : ℕ) (h : Hold) → pairHeld p v h ≡ true → (c : Call) × (
 held-by p v Empty e = clash e refl
 held-by p v (Live c) e = (c, (refl, on-pair p v c e))
 
-held-live : (p v : ℕ) (h : Hold) → pairHeld p v h ≡ true → isLive (record { hold = h }) ≡ true
+pub held-live : (p v : ℕ) (h : Hold) → pairHeld p v h ≡ true → isLive (record { hold = h }) ≡ true
 held-live p v Empty e = e
 held-live p v (Live c) e = refl
 
@@ -103,6 +102,15 @@ one-pair p v q w (Live c) other e =
 turned-pair : (p v : ℕ) (q : Phase) (h : Hold) → pairHeld p v (turnedHold q h .hold) ≡ pairHeld p v h
 turned-pair p v q Empty = refl
 turned-pair p v q (Live c) = refl
+
+-- either value of a choice, and the test that chooses it
+by-choice : {A : Type 0} (P : A → Type 0) (b : Bool) (x y : A) → (b ≡ true → P x) → (b ≡ false → P y) → P (cond b x y)
+by-choice P true x y a b = a refl
+by-choice P false x y a b = b refl
+
+-- two tests that pass
+together : (a b : Bool) → a ≡ true → b ≡ true → (a && b) ≡ true
+together a b e f = rw (e, f)
 
 -- a test between two that do not pass together
 and-drop : (a b c : Bool) → (a && c) ≡ false → (a && (b && c)) ≡ false
@@ -134,12 +142,13 @@ module _ (t : Table) (s : Sound t) (p v : ℕ) (ok : permitted (t .pool) p v ≡
     abbrev doubted-after : Bool
     doubted-after = among p v (o .answer .table .doubts .entries)
 
-    same-steps : assigned o p v ≡ false → expired t e o p v ≡ false → ended t o p v ≡ false → restarted o p v ≡ false
+    same-steps : assigned o p v ≡ false → expired t e o p v ≡ false → ended t o p v ≡ false → saysRestarted (o .reply) p v ≡ false
         → held-after ≡ someOf has-it ss → doubted-after ≡ among p v (t .doubts .entries) → Steps e o
-    same-steps a x n r h d =
+    same-steps a x n unsaid h d =
+        let r : restarted e o p v ≡ false = rw unsaid (and-false (restarts e p v)) in
         by-test (someOf has-it ss)
         (λ y. rw (h, y, x, n))
-        (λ z. by-test (among p v (t .doubts .entries)) (λ y. rw (h, z, d, y, r)) (λ f. rw (h, z, d, f, a)))
+        (λ z. by-test (among p v (t .doubts .entries)) (λ y. rw (h, z, d, y) (sym (ap (λ (b : Bool). cond b free doubtful) r))) (λ f. rw (h, z, d, f, a)))
 
     held-steps : someOf has-it ss ≡ false → among p v (t .doubts .entries) ≡ false → assigned o p v ≡ true → held-after ≡ true → Steps e o
     held-steps b f a h = rw (b, f, a, h)
@@ -151,12 +160,12 @@ module _ (t : Table) (s : Sound t) (p v : ℕ) (ok : permitted (t .pool) p v ≡
     ended-steps b x n h d = rw (b, x, n, h, d)
 
     -- a RESTART of the pair: its call is gone, or its doubt ends, or it was free
-    free-steps : assigned o p v ≡ false → expired t e o p v ≡ false → restarted o p v ≡ true → (someOf has-it ss ≡ true → ended t o p v ≡ true)
+    free-steps : assigned o p v ≡ false → expired t e o p v ≡ false → restarted e o p v ≡ true → (someOf has-it ss ≡ true → ended t o p v ≡ true)
         → held-after ≡ false → doubted-after ≡ false → Steps e o
     free-steps a x r gone h d =
         by-test (someOf has-it ss)
         (λ y. ended-steps y x (gone y) h d)
-        (λ z. by-test (among p v (t .doubts .entries)) (λ y. rw (h, z, d, y, r)) (λ f. rw (h, z, d, f, a)))
+        (λ z. by-test (among p v (t .doubts .entries)) (λ y. rw (h, z, d, y) (sym (ap (λ (b : Bool). cond b free doubtful) r))) (λ f. rw (h, z, d, f, a)))
 
   -- The pair of a call.
 
@@ -302,8 +311,9 @@ module _ (t : Table) (s : Sound t) (p v : ℕ) (ok : permitted (t .pool) p v ≡
     Receives x = By heard reading x
 
     -- the pair itself, or another one
-    restarted-pair : (q w : ℕ) → FitsPair q w → Receives (afterGone (gone (holdsPair q w) ss) (End q w) true (reply.RestartAcknowledge q w))
-    restarted-pair q w fit =
+    restarted-pair : (q w : ℕ) → FitsPair q w → ((eqb q p && eqb w v) ≡ true → restarts heard p v ≡ true)
+        → Receives (afterGone (gone (holdsPair q w) ss) (End q w) true (reply.RestartAcknowledge q w))
+    restarted-pair q w fit asked =
         let x = afterGone (gone (holdsPair q w) ss) (End q w) true (reply.RestartAcknowledge q w) in
         let o = sending t reading x false (effectReply x) in
         let doubts = ended-among q w p v (t .doubts .entries) (s .doubts-tidy) in
@@ -311,8 +321,8 @@ module _ (t : Table) (s : Sound t) (p v : ℕ) (ok : permitted (t .pool) p v ≡
         by-test (eqb q p && eqb w v)
         (λ y.
         let same = both (eqb q p) (eqb w v) y in
-        let named : restarted o p v ≡ true = rw (eqb-true q p (same .0), eqb-true w v (same .1)) (acknowledged p v) in
-        free-steps heard o unasked refl named
+        let said : saysRestarted (o .reply) p v ≡ true = rw (eqb-true q p (same .0), eqb-true w v (same .1)) (acknowledged p v) in
+        free-steps heard o unasked refl (rw (asked y) said)
         (λ some. all-told has-it (holdsPair q w) (λ x h. rw (eqb-true q p (same .0), eqb-true w v (same .1)) h) ss some)
         (none-emptied has-it refl (holdsPair q w) (λ x h. rw (eqb-true q p (same .0), eqb-true w v (same .1)) h) ss)
         (doubts ∙ rw y))
@@ -324,12 +334,12 @@ module _ (t : Table) (s : Sound t) (p v : ℕ) (ok : permitted (t .pool) p v ≡
         (some-emptied has-it refl (holdsPair q w) apart ss)
         (doubts ∙ rw n))
 
-    restarted-all : Receives (afterGone (gone isLive ss) EndAll true reply.RestartAcknowledgeAll)
-    restarted-all =
+    restarted-all : restarts heard p v ≡ true → Receives (afterGone (gone isLive ss) EndAll true reply.RestartAcknowledgeAll)
+    restarted-all asked =
         let x = afterGone (gone isLive ss) EndAll true reply.RestartAcknowledgeAll in
         let o = sending t reading x false (effectReply x) in
         free-steps heard o (gone-not-asked (someOf isSet (map isLive ss)) _) refl
-        (rw (all-acknowledged p v) (or-true (equal (effectReply x) (replyOctets true 0 (reply.RestartAcknowledge p v)))))
+        (rw asked (all-acknowledged p v))
         (λ some. all-told has-it isLive (λ x h. held-live p v (x .hold) h) ss some)
         (none-emptied has-it refl isLive (λ x h. held-live p v (x .hold) h) ss)
         (none-among doubtRoom p v)
@@ -337,26 +347,36 @@ module _ (t : Table) (s : Sound t) (p v : ℕ) (ok : permitted (t .pool) p v ≡
     status-steps : (n : ℕ) (d : Diagnostic) → Receives (restartStatus (t .slots) true n d)
     status-steps n d = replying-steps heard reading true 0 (reply.Status 0 (because n d)) refl
 
-    pair-restart-steps : (r : ConnectionRead) → ReadFits r → Receives (pairRestart (t .slots) (t .pool) true r)
-    pair-restart-steps connectionRead.Absent fit = status-steps 96 (diagnostic.Octet 0x5A)
-    pair-restart-steps connectionRead.Unreadable fit = status-steps 100 (diagnostic.Octet 0x5A)
-    pair-restart-steps (connectionRead.Pair q w) fit =
+    pair-restart-steps : (r : ConnectionRead) → ReadFits r → (namesPair r p v ≡ true → restarts heard p v ≡ true)
+        → Receives (pairRestart (t .slots) (t .pool) true r)
+    pair-restart-steps connectionRead.Absent fit asked = status-steps 96 (diagnostic.Octet 0x5A)
+    pair-restart-steps connectionRead.Unreadable fit asked = status-steps 100 (diagnostic.Octet 0x5A)
+    pair-restart-steps (connectionRead.Pair q w) fit asked =
         by-cond Receives (knownVpci (t .pool) q) _ _
-        (by-cond Receives (ltb w 32 || permanent (t .pool) q w) _ _ (status-steps 82 (diagnostic.Pair q w)) (restarted-pair q w fit))
+        (by-cond Receives (ltb w 32 || permanent (t .pool) q w) _ _ (status-steps 82 (diagnostic.Pair q w)) (restarted-pair q w fit asked))
         (status-steps 100 (diagnostic.Octet 0x5A))
 
-    restart-steps : (r : RestartRead) (c : ConnectionRead) → ReadFits c → Receives (restartEffect (t .slots) (t .pool) true r c)
-    restart-steps restartRead.Absent c fit = status-steps 96 (diagnostic.Octet 0x79)
-    restart-steps restartRead.Unreadable c fit = status-steps 100 (diagnostic.Octet 0x79)
-    restart-steps (restartRead.Class k) c fit = by-cond Receives (eqb k 0x82) _ _ restarted-all (pair-restart-steps c fit)
+    restart-steps : (r : RestartRead) (c : ConnectionRead) → ReadFits c → (names r c p v ≡ true → restarts heard p v ≡ true)
+        → Receives (restartEffect (t .slots) (t .pool) true r c)
+    restart-steps restartRead.Absent c fit asked = status-steps 96 (diagnostic.Octet 0x79)
+    restart-steps restartRead.Unreadable c fit asked = status-steps 100 (diagnostic.Octet 0x79)
+    restart-steps (restartRead.Class k) c fit asked =
+        by-choice Receives (eqb k 0x82) _ _
+        (λ y. restarted-all (asked (rw y)))
+        (λ n. pair-restart-steps c fit (λ y. asked (rw (n, y))))
 
     -- Every message.
 
-    global-steps : (h : Header) → ReadFits (connectionIn m 9) → Receives (globalEffect t m h)
-    global-steps h fit =
-        by-cond Receives (eqb (h .kind) 0x46 && not (h .flag)) _ _
-        (by-cond Receives (h .whole) _ _ (restart-steps (restartIn m 9) (connectionIn m 9) fit) (quiet-steps heard reading))
-        (replying-steps heard reading (not (h .flag)) 0 (globalReply h) (global-other h))
+    global-steps : (h : Header) → headOf m ≡ Is h → eqb (h .reference) 0 ≡ true → ReadFits (connectionIn m 9) → Receives (globalEffect t m h)
+    global-steps h head global fit =
+        by-choice Receives (eqb (h .kind) 0x46 && not (h .flag)) _ _
+        (λ restart. by-choice Receives (h .whole) _ _
+        (λ whole.
+        let right = together (eqb (h .reference) 0) (h .whole) global whole in
+        let is-one : isRestart m ≡ true = ap restartHead head ∙ together (eqb (h .kind) 0x46 && not (h .flag)) _ restart right in
+        restart-steps (restartIn m 9) (connectionIn m 9) fit (λ y. together (isRestart m) _ is-one y))
+        (λ n. quiet-steps heard reading))
+        (λ n. replying-steps heard reading (not (h .flag)) 0 (globalReply h) (global-other h))
 
     pair-steps : (r i : ℕ) (c : Channel) → freePair t ≡ c → place isEmpty ss ≡ At i → Receives (onPair t r i c)
     pair-steps r i None lowest-one found = replying-steps heard reading true r (reply.ReleaseCompleteWith (plainCause 45)) refl
@@ -388,10 +408,12 @@ module _ (t : Table) (s : Sound t) (p v : ℕ) (ok : permitted (t .pool) p v ≡
     found-steps h Nothing = no-call-steps h
     found-steps h (At i) = hold-steps h i (slotAt t i .hold) refl
 
-    head-steps : (x : Head) → ReadFits (connectionIn m 9) → Receives (heardBy t reading m x)
-    head-steps Ignored fit = quiet-steps heard reading
-    head-steps (Is h) fit =
-        by-cond Receives (eqb (h .reference) 0) _ _ (global-steps h fit) (found-steps h (place (isCall (h .flag) (h .reference)) ss))
+    head-steps : (x : Head) → headOf m ≡ x → ReadFits (connectionIn m 9) → Receives (heardBy t reading m x)
+    head-steps Ignored head fit = quiet-steps heard reading
+    head-steps (Is h) head fit =
+        by-choice Receives (eqb (h .reference) 0) _ _
+        (λ global. global-steps h head global fit)
+        (λ n. found-steps h (place (isCall (h .flag) (h .reference)) ss))
 
   -- A tick.
 
@@ -454,7 +476,7 @@ module _ (t : Table) (s : Sound t) (p v : ℕ) (ok : permitted (t .pool) p v ≡
     offered-steps (At i) found = offered-on-steps i (freePair t) refl found
 
   outcome-steps : (e : Event) → InOctets e → Steps e (outcomeOf t e)
-  outcome-steps (message label reading room m) octets = head-steps label reading room m (headOf m) (connection-fits m (record { at = octets }))
+  outcome-steps (message label reading room m) octets = head-steps label reading room m (headOf m) refl (connection-fits m (record { at = octets }))
   outcome-steps (tick label reading room) octets = fired-steps label reading room (nextDue reading ss)
   outcome-steps (connect label reading room slot) octets = connected-steps label reading room slot (holdAt t slot) refl
   outcome-steps (clear label reading room slot cause) octets = cleared-steps label reading room slot cause (holdAt t slot) refl

@@ -5,14 +5,16 @@
 --   assigned, ended            an answer says that a call was put on the pair, or that the call on it is gone
 --   lastHold, lastOn, isTick   a slot's second T308 runs, on a certain pair; an event is a tick
 --   expired                    a tick ended it, and its second T308 ran
---   restarted                  an answer is RESTART ACKNOWLEDGE for the pair, or for all
+--   isRestart, names, restarts a message is a user's RESTART; it names a pair, or all; an event is one that does
+--   restarted                  .. and its answer is RESTART ACKNOWLEDGE for the pair, or for all
 --   turned, nextWay, wayAfter  how the pair stands after an event, and after a list of them, told from events, answers and tables
 --   Expiry                     what a second T308 expiry does
+--   Restarting                 what a user's RESTART does
 --   History                    the statement
 -- Assumes nothing.
 use Prim.Native.Nat.{ℕ}
 use mathlib.Core.Path.{_≡_}
-use mathlib.Core.Bool.{Bool, true, false, cond, _&&_, _||_}
+use mathlib.Core.Bool.{Bool, true, false, not, cond, _&&_, _||_}
 use mathlib.Core.List.{List, [], _∷_}
 use lib.Dec.{eqb}
 use Rattle.octets.specs.Octets.{equal}
@@ -29,6 +31,14 @@ use Rattle.calls.specs.declared.Hold.{Hold}
 use Rattle.calls.specs.declared.Hold.the-variants.{Empty, Live}
 use Rattle.calls.specs.declared.Slot.{Slot}
 use Rattle.calls.specs.Calls.{noSlot, moved, holdsPair}
+use Rattle.header.specs.declared.Head.{Head}
+use Rattle.header.specs.declared.Head.the-variants.{Ignored, Is}
+use Rattle.header.specs.Header.{headOf}
+use Rattle.elements.specs.declared.ConnectionRead.{ConnectionRead}
+use Rattle.elements.specs.declared.ConnectionRead.the-variants as connectionRead
+use Rattle.elements.specs.declared.RestartRead.{RestartRead}
+use Rattle.elements.specs.declared.RestartRead.the-variants as restartRead
+use Rattle.elements.specs.Values.{connectionIn, restartIn}
 use Rattle.replies.specs.declared.Reply.the-variants.{RestartAcknowledge, RestartAcknowledgeAll}
 use Rattle.replies.specs.Reply.{replyOctets}
 use Rattle.verdicts.specs.Expiry.{clearing, lastT308}
@@ -92,10 +102,37 @@ isTick (offer label reading room body) = false
 abbrev pub expired : Table → Event → Outcome → ℕ → ℕ → Bool
 expired t e o p v = isTick e && (eqb (o .answer .notice) 3 && flaggedOn (lastOn p v) (o .answer .flags .on) (t .slots .all))
 
--- "A user's RESTART that names it, or all": the answer is RESTART ACKNOWLEDGE with the pair, or for all
-abbrev pub restarted : Outcome → ℕ → ℕ → Bool
-restarted o p v =
-    equal (o .reply) (replyOctets true 0 (RestartAcknowledge p v)) || equal (o .reply) (replyOctets true 0 RestartAcknowledgeAll)
+-- "A user's RESTART": "RESTART 46", "RESTART with flag 0" on the global reference, and its length is right (document 01, steps 1 to 3 and 5)
+abbrev pub restartHead : Head → Bool
+restartHead Ignored = false
+restartHead (Is h) = (eqb (h .kind) 0x46 && not (h .flag)) && (eqb (h .reference) 0 && h .whole)
+
+abbrev pub isRestart : List ℕ → Bool
+isRestart m = restartHead (headOf m)
+
+-- ".. that names it, or all": 79, "80 (indicated channel) or 82 (all)" where it is readable, is 82, or else 5A is the pair
+abbrev pub namesPair : ConnectionRead → ℕ → ℕ → Bool
+namesPair connectionRead.Absent p v = false
+namesPair connectionRead.Unreadable p v = false
+namesPair (connectionRead.Pair q w) p v = eqb q p && eqb w v
+
+abbrev pub names : RestartRead → ConnectionRead → ℕ → ℕ → Bool
+names restartRead.Absent connection p v = false
+names restartRead.Unreadable connection p v = false
+names (restartRead.Class c) connection p v = eqb c 0x82 || namesPair connection p v
+
+abbrev pub restarts : Event → ℕ → ℕ → Bool
+restarts (message label reading room octets) p v = isRestart octets && names (restartIn octets 9) (connectionIn octets 9) p v
+restarts (tick label reading room) p v = false
+restarts (connect label reading room slot) p v = false
+restarts (clear label reading room slot cause) p v = false
+restarts (offer label reading room body) p v = false
+
+-- "A user's RESTART that names it, or all, ends the doubt": the answer is RESTART ACKNOWLEDGE with the pair, or for all
+abbrev pub restarted : Event → Outcome → ℕ → ℕ → Bool
+restarted e o p v =
+    restarts e p v
+    && (equal (o .reply) (replyOctets true 0 (RestartAcknowledge p v)) || equal (o .reply) (replyOctets true 0 RestartAcknowledgeAll))
 
 -- "held from assignment until its call ends, in doubt from such an expiry until a RESTART ends it, free otherwise"
 abbrev pub turned : Bool → Bool → Bool → Bool → Way → Way
@@ -104,7 +141,7 @@ turned isAssigned isExpired isEnded isRestarted held = cond isExpired doubtful (
 turned isAssigned isExpired isEnded isRestarted doubtful = cond isRestarted free doubtful
 
 abbrev pub nextWay : Table → Event → Outcome → ℕ → ℕ → Way → Way
-nextWay t e o p v w = turned (assigned o p v) (expired t e o p v) (ended t o p v) (restarted o p v) w
+nextWay t e o p v w = turned (assigned o p v) (expired t e o p v) (ended t o p v) (restarted e o p v) w
 
 abbrev pub wayAfter : Table → List Event → ℕ → ℕ → Way → Way
 wayAfter t [] p v w = w
@@ -128,6 +165,22 @@ pub record Expiry (t : Table) : Type 0 where
       (slotAt (o .answer .table) i ≡ record { hold = Live (moved c (again reading (c .phase))) }) × (o .answer .table .doubts ≡ t .doubts)
       × (o .answer .notice ≡ 0) × (o .reply ≡ [])
 
+-- "A user's RESTART": an accepted message that is one
+pub record Restarts (t : Table) (label reading room : ℕ) (m : List ℕ) : Type 0 where
+  pub accepted : happens t (message label reading room m) .answer .refusal ≡ 0
+  pub restart : isRestart m ≡ true
+
+pub record Restarting (t : Table) : Type 0 where
+  -- "or all, ends the doubt": no pair at all is in doubt, nor held
+  pub ends-all : (label reading room : ℕ) (m : List ℕ) → Restarts t label reading room m → restartIn m 9 ≡ restartRead.Class 0x82
+      → let o = happens t (message label reading room m) in
+      ((p v : ℕ) → wayIn (o .answer .table) p v ≡ free) × (o .reply ≡ replyOctets true 0 RestartAcknowledgeAll)
+  -- "that names it, .. ends the doubt": "80 (indicated channel)", and 5A is a permitted pair
+  pub ends-named : (label reading room : ℕ) (m : List ℕ) → Restarts t label reading room m → restartIn m 9 ≡ restartRead.Class 0x80
+      → (p v : ℕ) → connectionIn m 9 ≡ connectionRead.Pair p v → permitted (t .pool) p v ≡ true
+      → let o = happens t (message label reading room m) in
+      (wayIn (o .answer .table) p v ≡ free) × (o .reply ≡ replyOctets true 0 (RestartAcknowledge p v))
+
 pub record History : Type 0 where
   -- from how it stood at the beginning, the events and their answers tell how each permitted pair stands; "reloaded pairs go on as they were"
   pub told : (b : Beginning) → begun b .refusal ≡ 0 → (es : List Event) → AllInOctets es → (p v : ℕ) → permitted (begun b .table .pool) p v ≡ true
@@ -136,6 +189,8 @@ pub record History : Type 0 where
   pub not-given : (t : Table) (p v : ℕ) → InDoubt t p v → freePair t ≡ Pair p v → ⊥
   -- every second expiry, of a reached table
   pub expiry : (t : Table) → Reached t → Expiry t
+  -- every RESTART of a user, of a reached table
+  pub restarting : (t : Table) → Reached t → Restarting t
   -- at a start every pair is free
   pub fresh : (ranges pairs : List ℕ) (p v : ℕ) → wayIn (startOf ranges pairs .table) p v ≡ free
   -- "never two ways"

@@ -4,5 +4,7 @@
 //   proofs/Acknowledged.antt which replies are RESTART ACKNOWLEDGE with a pair, or for all
 //   proofs/Verdicts.antt     what is decided of a call, for its pair
 //   proofs/Steps.antt        one event
+//   proofs/Expiry.antt       what a second T308 expiry does
+//   proofs/Restarting.antt   what a user's RESTART does
 //   proofs/History.antt      lists of events
 // Assumes nothing.
