@@ -21,24 +21,25 @@ fn repository(name: &str) -> PathBuf {
     root
 }
 
-fn table(rows: &[&str]) -> String {
-    format!("| head |\n|---|\n{}\n", rows.join("\n"))
+fn table(row: &str) -> String {
+    format!("| head |\n|---|\n{row}\n")
+}
+
+/// What is missing of a row, read as one of the two books.
+fn missing(name: &str, book: fn(&mut Books, &str), row: &str) -> Vec<String> {
+    let root = repository(name);
+    let mut books = Books::new(&root);
+    book(&mut books, &table(row));
+    fs::remove_dir_all(root).expect("the folder goes");
+    books.missing
 }
 
 fn promised(name: &str, row: &str) -> Vec<String> {
-    let root = repository(name);
-    let mut books = Books::new(&root);
-    books.promises(&table(&[row]));
-    fs::remove_dir_all(root).expect("the folder goes");
-    books.missing
+    missing(name, Books::promises, row)
 }
 
 fn answered(name: &str, row: &str) -> Vec<String> {
-    let root = repository(name);
-    let mut books = Books::new(&root);
-    books.wrong_answers(&table(&[row]));
-    fs::remove_dir_all(root).expect("the folder goes");
-    books.missing
+    missing(name, Books::wrong_answers, row)
 }
 
 #[test]
