@@ -56,7 +56,8 @@ impl Books {
     /// edits, and a line as it stands with what it is changed to.
     pub fn wrong_answers(&mut self, text: &str) {
         for (number, cells) in rows(text) {
-            let [name, function, kept, tried] = &cells[..4] else {
+            let Some([name, function, kept, tried]) = cells.get(..4) else {
+                self.found(false, number, "a row of too few cells");
                 continue;
             };
             let name = name.trim();

@@ -92,3 +92,8 @@ fn a_line_that_stands_twice_has_its_mark() {
     assert_eq!(answered("marked", marked), Vec::<String>::new());
     assert_eq!(answered("bare", bare).len(), 1);
 }
+
+#[test]
+fn a_row_of_too_few_cells() {
+    assert_eq!(answered("few", "| pairs | `Pair::first` |").len(), 1);
+}
