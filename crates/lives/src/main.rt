@@ -8,53 +8,11 @@ use table::Table;
 ghost use Prim.Native.Nat.{_<_};
 
 // A SETUP on reference 0; its elements are an offer's body too.
-const SETUP: [u8; 45] = [
-    0x09,
-    0x03,
-    0x00,
-    0x00,
-    0x00,
-    0x05,
-    0x80,
-    0x00,
-    0x24,
-    0x59,
-    0x80,
-    0x00,
-    0x08,
-    0x84,
-    0x00,
-    0x10,
-    0x00,
-    0x85,
-    0x00,
-    0x10,
-    0x00,
-    0x5C,
-    0x80,
-    0x00,
-    0x02,
-    0x00,
-    0x00,
-    0x5E,
-    0x80,
-    0x00,
-    0x02,
-    0x81,
-    0x80,
-    0x70,
-    0x80,
-    0x00,
-    0x08,
-    0x91,
-    0x35,
-    0x35,
-    0x35,
-    0x31,
-    0x32,
-    0x33,
-    0x34,
-];
+const SETUP: [u8; 45] = *b"\x09\x03\x00\x00\x00\x05\x80\x00\x24\
+    \x59\x80\x00\x08\x84\x00\x10\x00\x85\x00\x10\x00\
+    \x5C\x80\x00\x02\x00\x00\
+    \x5E\x80\x00\x02\x81\x80\
+    \x70\x80\x00\x08\x91\x35\x35\x35\x31\x32\x33\x34";
 
 // A table, and the lengths of the replies so far, added up modulo 1,000,000.
 struct Life {

@@ -22,7 +22,7 @@ use Rattle.channels.specs.Doubts.{doubtsOf}
 use Rattle.provisioning.specs.Provisioning.{numbered, provision}
 use Rattle.calls.specs.declared.Slot.{Slot}
 use Rattle.calls.specs.declared.Slots.{Slots}
-use Rattle.reading.specs.Reading.{twoAt, eightAt, rest, numbersIn, least, listIn, rangeNumbers, pairNumbers, entriesIn, slotIn, behindSlot, slotsIn, tableIn}
+use Rattle.reading.specs.Reading.{twoAt, eightAt, rest, numbersIn, least, listIn, entriesIn, slotIn, behindSlot, slotsIn, tableWith}
 
 -- the first k numbers of the contents are read
 pub record Listed (f numbers : List ℕ) (k : ℕ) : Type 0 where
@@ -121,5 +121,5 @@ provision-same rs ps rs₁ ps₁ a b = ap (λ (r : List ℕ). provision r ps) a 
 -- the table, by its parts
 pub table-parts : (f f₂ f₃ f₄ : List ℕ) (ss : Slots) (ds : Doubts) (n : ℕ) (pool : Pool) (count : ℕ) → rest (rest f) ≡ f₂ → rest f₂ ≡ f₃ → rest f₃ ≡ f₄
     → ss .all ≡ slotsIn 0 f₄ count → ds ≡ doubtsOf (entriesIn (listIn 128 f₃)) → n ≡ eightAt f₂ 3
-    → pool ≡ provision (rangeNumbers f) (pairNumbers f) .pool → record { slots = ss; doubts = ds; last = n; pool = pool } ≡ tableIn count f
-table-parts f f₂ f₃ f₄ ss ds n pool count a b c d e g h = rw (a, b, c, ← d, ← e, ← g, h)
+    → record { slots = ss; doubts = ds; last = n; pool = pool } ≡ tableWith pool count f
+table-parts f f₂ f₃ f₄ ss ds n pool count a b c d e g = rw (a, b, c, ← d, ← e, ← g)

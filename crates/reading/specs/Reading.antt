@@ -8,7 +8,7 @@
 --   clearingIn, phaseIn, referenceIn, callIn     the live call of the first field
 --   begins, slotIn, behindSlot    a slot holds a call if the first field is its own
 --   slotsIn                   the slots
---   tableIn                   the table, of so many slots
+--   tableWith, tableIn        the table, of so many slots: with a pool, and with its own
 -- Assumes nothing.
 use Prim.Native.Nat.{ℕ, zero, suc, _+_, _*_, _/_, _%_}
 use mathlib.Core.Bool.{Bool, cond, _&&_}
@@ -17,6 +17,7 @@ use lib.Dec.{eqb, leb, ltb}
 use lib.ListN.{length, getD, drop}
 use Rattle.octets.specs.Octets.{number}
 use Rattle.channels.specs.declared.Entry.{Entry}
+use Rattle.channels.specs.declared.Pool.{Pool}
 use Rattle.channels.specs.Doubts.{doubtRoom, doubtsOf}
 use Rattle.calls.specs.declared.Clearing.{Clearing}
 use Rattle.calls.specs.declared.Phase.{Phase}
@@ -99,11 +100,15 @@ unfoldable pub slotsIn : ℕ → List ℕ → ℕ → List Slot
 slotsIn slot f zero = []
 slotsIn slot f (suc n) = slotIn slot f ∷ slotsIn (slot + 1) (behindSlot slot f) n
 
--- the ranges, the permanent pairs, the last reading, the pairs in doubt, the calls; over the number of slots
-abbrev pub tableIn : ℕ → List ℕ → Table
-tableIn count f = record {
+-- the last reading, the pairs in doubt, the calls, beside a pool; over the number of slots
+abbrev pub tableWith : Pool → ℕ → List ℕ → Table
+tableWith pool count f = record {
   slots = slotsOf (slotsIn 0 (rest (rest (rest (rest f)))) count);
   doubts = doubtsOf (entriesIn (doubtNumbers f));
   last = eightAt (rest (rest f)) 3;
-  pool = provision (rangeNumbers f) (pairNumbers f) .pool;
+  pool = pool;
 }
+
+-- .. and the pool that start makes of the ranges and the permanent pairs
+abbrev pub tableIn : ℕ → List ℕ → Table
+tableIn count f = tableWith (provision (rangeNumbers f) (pairNumbers f) .pool) count f

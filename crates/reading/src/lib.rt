@@ -1,8 +1,8 @@
 // What octets say as a saved form, read with no question asked. docs/FORMATS.md has the layout.
 //   provision_of     what start makes of the two lists
-//   table_of         the table, with its pool
-// Past the end stand zeros, and what is not a form reads as some table, whose form is another. `table_of` asks for the pool of the
-// same octets; nothing else public has a `requires`. Assumes nothing.
+//   table_of         the table, with a pool
+// Past the end stand zeros, and what is not a form reads as some table, whose form is another. Nothing public has a `requires`.
+// Assumes nothing.
 use calls::Call;
 use calls::Clearing;
 use calls::Hold;
@@ -20,7 +20,7 @@ ghost use Prim.Native.Nat.{_+_, _≤_};
 ghost use lib.ListN.{length, getD, take, drop};
 ghost use Rattle.channels.specs.Doubts.{doubtsOf};
 ghost use Rattle.provisioning.specs.Provisioning.{provision};
-ghost use Rattle.reading.specs.Reading.{twoAt, eightAt, rest, least, listIn, rangeNumbers, pairNumbers, entriesIn, clearingIn, phaseIn, referenceIn, callIn, begins, slotIn, behindSlot, slotsIn, tableIn};
+ghost use Rattle.reading.specs.Reading.{twoAt, eightAt, rest, least, listIn, rangeNumbers, pairNumbers, entriesIn, clearingIn, phaseIn, referenceIn, callIn, begins, slotIn, behindSlot, slotsIn, tableWith};
 
 // A list of start or the pairs in doubt, in the front of an array.
 struct List {
@@ -233,10 +233,9 @@ fn slots_in(form: &[u8], at: usize) -> Slots
     Slots { all: all }
 }
 
-// The table that the octets say, with its pool.
+// The table that the octets say, with a pool.
 pub fn table_of(form: &[u8], pool: Pool) -> Table
-    requires { ⌜ pool ≡ provision (rangeNumbers (now form)) (pairNumbers (now form)) .pool ⌝ }
-    ensures { λ r. ⌜ r ≡ tableIn 32 (now (form .entry)) ⌝ }
+    ensures { λ r. ⌜ r ≡ tableWith pool 32 (now (form .entry)) ⌝ }
 {
     let pairs = behind(form, 0);
     let reading = behind(form, pairs);

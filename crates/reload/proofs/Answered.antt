@@ -1,4 +1,5 @@
 -- What the reader answers, by its five tests.
+--   with-own-pool                                                 the table that is read, with the pool of its lists
 --   no-lists, over-limit, doubts-not-kept, not-kept, not-own      each refusal
 --   all-pass                                                      the table
 -- Over the number of slots. Assumes nothing.
@@ -8,14 +9,19 @@ use mathlib.Core.Bool.{Bool, true, false, cond, _&&_}
 use mathlib.Core.List.{List, []}
 use lib.Dec.{leb}
 use Rattle.octets.specs.Octets.{equal}
+use Rattle.provisioning.specs.declared.Provision.{Provision}
 use Rattle.provisioning.specs.Provisioning.{allBelow, provision}
 use Rattle.table.specs.declared.Table.{Table}
 use Rattle.outcome.specs.declared.Started.{Started}
 use Rattle.outcome.specs.Refusals.{largestReading}
 use Rattle.control.specs.Events.{startOf}
 use Rattle.saved.specs.Form.{formOf}
-use Rattle.reading.specs.Reading.{rangeNumbers, pairNumbers, tableIn}
+use Rattle.reading.specs.Reading.{rangeNumbers, pairNumbers, tableWith, tableIn}
 use Rattle.reload.specs.Reload.{slotKept, doubtsKept, reloadIn}
+
+pub with-own-pool : (count : ℕ) (f : List ℕ) (p : Provision) (t : Table) → p ≡ provision (rangeNumbers f) (pairNumbers f) → t ≡ tableWith (p .pool) count f
+    → t ≡ tableIn count f
+with-own-pool count f p t e read = read ∙ ap (λ (x : Provision). tableWith (x .pool) count f) e
 
 abbrev answer : Bool → Bool → Bool → Bool → Bool → Table → Started
 answer a b c d e t = cond (a && (b && (c && (d && e)))) (record { refusal = 0; table = t }) (startOf [] [])

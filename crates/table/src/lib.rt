@@ -21,7 +21,6 @@ use effects::quiet;
 use effects::replying;
 use header::Header;
 use replies::Cause;
-use replies::Diagnostic;
 use replies::Reply;
 use setup::Admission;
 ghost use mathlib.Core.Path.{_≡_};
@@ -77,7 +76,7 @@ impl Table {
     {
         let slots = self.slots;
         match pair {
-            Channel::None => self.refuse_setup(reference, verdicts::because(45, Diagnostic::None)),
+            Channel::None => self.refuse_setup(reference, verdicts::plain_cause(45)),
             Channel::Pair(vpci, vci) => {
                 let call = Call {
                     network: false,
@@ -104,7 +103,7 @@ impl Table {
     {
         let slots = self.slots;
         match slots.lowest_empty() {
-            Found::Nothing => self.refuse_setup(reference, verdicts::because(47, Diagnostic::None)),
+            Found::Nothing => self.refuse_setup(reference, verdicts::plain_cause(47)),
             Found::At(i) => self.set_up_on(reference, i, self.free_pair()),
         }
     }

@@ -3,7 +3,7 @@
 use mathlib.Core.Path.{sym, ap, _∙_}
 use borrow.Author.Tests.{le-leb, lt-leb, not-true, not-false}
 use Rattle.provisioning.specs.declared.Provision.{Provision}
-use Rattle.reload.proofs.Answered.{no-lists, over-limit, doubts-not-kept, not-kept, not-own, all-pass}
+use Rattle.reload.proofs.Answered.{with-own-pool, no-lists, over-limit, doubts-not-kept, not-kept, not-own, all-pass}
 use borrow.Author.Needs.{needs}
 use Rattle.reload.proofs.reload.Statement.{statement}
 use Rattle.reload.proofs.reload.Tie as tie
@@ -21,7 +21,7 @@ returns c =
     c .refuse .ensures ∙ no-lists 32 (p .before .before .args .form .now) lists
 
 table-of-requires : tie.Need-table-of-requires
-table-of-requires c κs = ap (λ (x : Provision). x .pool) (c .before .before .before .provision-of .ensures)
+table-of-requires c κs = search needs
 
 refuse-requires-2 : tie.Need-refuse-requires-2
 refuse-requires-2 c κs = search needs
@@ -31,7 +31,8 @@ returns-2 c =
     let t = c .before .before .before in
     let p = t .before .before .before .before in
     let lists = ap (λ (x : Provision). x .accepted) (sym (p .provision-of .ensures)) ∙ not-false _ (t .before .before .if1 .left) in
-    c .refuse2 .ensures ∙ over-limit 32 (p .before .before .args .form .now) _ (t .table-of .ensures) lists (lt-leb _ _ (c .before .if2 .taken))
+    let own = with-own-pool 32 (p .before .before .args .form .now) (p .provision-of .result) (t .table-of .result) (p .provision-of .ensures) (t .table-of .ensures) in
+    c .refuse2 .ensures ∙ over-limit 32 (p .before .before .args .form .now) _ own lists (lt-leb _ _ (c .before .if2 .taken))
 
 are-doubts-kept-requires : tie.Need-are-doubts-kept-requires
 are-doubts-kept-requires c κs = search needs
@@ -45,8 +46,9 @@ returns-3 c =
     let t = d .before .before .before in
     let p = t .before .before .before .before in
     let lists = ap (λ (x : Provision). x .accepted) (sym (p .provision-of .ensures)) ∙ not-false _ (t .before .before .if1 .left) in
+    let own = with-own-pool 32 (p .before .before .args .form .now) (p .provision-of .result) (t .table-of .result) (p .provision-of .ensures) (t .table-of .ensures) in
     c .refuse3 .ensures
-    ∙ doubts-not-kept 32 (p .before .before .args .form .now) _ (t .table-of .ensures) lists (le-leb _ _ (d .before .if2 .left))
+    ∙ doubts-not-kept 32 (p .before .before .args .form .now) _ own lists (le-leb _ _ (d .before .if2 .left))
     (sym (d .are-doubts-kept .ensures) ∙ not-true _ (c .before .if3 .taken))
 
 are-slots-kept-requires : tie.Need-are-slots-kept-requires
@@ -62,8 +64,9 @@ returns-4 c =
     let t = d .before .before .before in
     let p = t .before .before .before .before in
     let lists = ap (λ (x : Provision). x .accepted) (sym (p .provision-of .ensures)) ∙ not-false _ (t .before .before .if1 .left) in
+    let own = with-own-pool 32 (p .before .before .args .form .now) (p .provision-of .result) (t .table-of .result) (p .provision-of .ensures) (t .table-of .ensures) in
     c .refuse4 .ensures
-    ∙ not-kept 32 (p .before .before .args .form .now) _ (t .table-of .ensures) lists (le-leb _ _ (d .before .if2 .left))
+    ∙ not-kept 32 (p .before .before .args .form .now) _ own lists (le-leb _ _ (d .before .if2 .left))
     (sym (d .are-doubts-kept .ensures) ∙ not-false _ (k .before .if3 .left)) (sym (k .are-slots-kept .ensures) ∙ not-true _ (c .before .if4 .taken))
 
 is-own-requires : tie.Need-is-own-requires
@@ -80,8 +83,9 @@ returns-5 c =
     let t = d .before .before .before in
     let p = t .before .before .before .before in
     let lists = ap (λ (x : Provision). x .accepted) (sym (p .provision-of .ensures)) ∙ not-false _ (t .before .before .if1 .left) in
+    let own = with-own-pool 32 (p .before .before .args .form .now) (p .provision-of .result) (t .table-of .result) (p .provision-of .ensures) (t .table-of .ensures) in
     c .refuse5 .ensures
-    ∙ not-own 32 (p .before .before .args .form .now) _ (t .table-of .ensures) lists (le-leb _ _ (d .before .if2 .left))
+    ∙ not-own 32 (p .before .before .args .form .now) _ own lists (le-leb _ _ (d .before .if2 .left))
     (sym (d .are-doubts-kept .ensures) ∙ not-false _ (k .before .if3 .left)) (sym (k .are-slots-kept .ensures) ∙ not-false _ (o .before .if4 .left))
     (sym (o .is-own .ensures) ∙ not-true _ (c .before .if5 .taken))
 
@@ -93,7 +97,8 @@ returns-6 c =
     let t = d .before .before .before in
     let p = t .before .before .before .before in
     let lists = ap (λ (x : Provision). x .accepted) (sym (p .provision-of .ensures)) ∙ not-false _ (t .before .before .if1 .left) in
-    all-pass 32 (p .before .before .args .form .now) _ (t .table-of .ensures) lists (le-leb _ _ (d .before .if2 .left))
+    let own = with-own-pool 32 (p .before .before .args .form .now) (p .provision-of .result) (t .table-of .result) (p .provision-of .ensures) (t .table-of .ensures) in
+    all-pass 32 (p .before .before .args .form .now) _ own lists (le-leb _ _ (d .before .if2 .left))
     (sym (d .are-doubts-kept .ensures) ∙ not-false _ (k .before .if3 .left)) (sym (k .are-slots-kept .ensures) ∙ not-false _ (o .before .if4 .left))
     (sym (o .is-own .ensures) ∙ not-false _ (c .if5 .left))
 

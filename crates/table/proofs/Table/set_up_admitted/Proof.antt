@@ -11,8 +11,8 @@ lowest-empty-requires c κs = search needs
 enum-told : tie.Need-enum-told
 enum-told c = search needs
 
-because-requires : tie.Need-because-requires
-because-requires c κs = search needs
+plain-cause-requires : tie.Need-plain-cause-requires
+plain-cause-requires c κs = search needs
 
 refuse-setup-requires : tie.Need-refuse-setup-requires
 refuse-setup-requires c κs = search needs
@@ -27,7 +27,7 @@ set-up-on-requires : tie.Need-set-up-on-requires
 set-up-on-requires c κs = rw (c .before .before .i .given .1) at (c .before .before .before .before .lowest-empty .ensures .1)
 
 returns : tie.Need-returns
-returns c = rw (sym (c .before .before .before .before .lowest-empty .ensures .0) ∙ c .before .before .enum-told .given .1) (c .refuse-setup .ensures ∙ rw (c .before .because .ensures))
+returns c = rw (sym (c .before .before .before .before .lowest-empty .ensures .0) ∙ c .before .before .enum-told .given .1) (c .refuse-setup .ensures ∙ rw (c .before .plain-cause .ensures))
 
 returns-2 : tie.Need-returns-2
 returns-2 c = rw (sym (c .before .before .before .before .before .lowest-empty .ensures .0) ∙ c .before .before .before .i .given .1) (c .set-up-on .ensures ∙ rw (c .before .free-pair .ensures))
@@ -38,7 +38,7 @@ set-up-admitted-spec =
     (tie.spec
     lowest-empty-requires
     enum-told
-    because-requires
+    plain-cause-requires
     refuse-setup-requires
     enum-known-i
     free-pair-requires

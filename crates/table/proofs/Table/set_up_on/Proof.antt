@@ -8,8 +8,8 @@ use Rattle.table.proofs.Table.set_up_on.Tie as tie
 enum-told : tie.Need-enum-told
 enum-told c = search needs
 
-because-requires : tie.Need-because-requires
-because-requires c κs = search needs
+plain-cause-requires : tie.Need-plain-cause-requires
+plain-cause-requires c κs = search needs
 
 refuse-setup-requires : tie.Need-refuse-setup-requires
 refuse-setup-requires c κs = search needs
@@ -21,7 +21,7 @@ assign-requires : tie.Need-assign-requires
 assign-requires c κs = search needs
 
 returns : tie.Need-returns
-returns c = rw (c .before .before .enum-told .given .1) (c .refuse-setup .ensures ∙ rw (c .before .because .ensures))
+returns c = rw (c .before .before .enum-told .given .1) (c .refuse-setup .ensures ∙ rw (c .before .plain-cause .ensures))
 
 returns-2 : tie.Need-returns-2
 returns-2 c = rw (c .before .before .pair .given .1) (c .assign .ensures)
@@ -31,7 +31,7 @@ set-up-on-spec =
     tie.close
     (tie.spec
     enum-told
-    because-requires
+    plain-cause-requires
     refuse-setup-requires
     enum-known-pair
     assign-requires
