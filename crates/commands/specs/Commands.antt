@@ -1,7 +1,7 @@
 -- What connect, clear and offer do to the table (document 01, "Host and timers").
 --   connected, cleared
 --   networkCall, offeredOn     the call of an offer, and its SETUP on a pair
--- The refusals are in outcome, the events in control. Assumes nothing.
+-- The refusals are in crate refusals, the events in control. Assumes nothing.
 use Prim.Native.Nat.{ℕ, _+_}
 use mathlib.Core.Bool.{true, false, not}
 use mathlib.Core.List.{List}

@@ -12,36 +12,51 @@ use effects::Effect;
 use outcome::Answer;
 use replies::Reply;
 use table::Table;
-use verdicts::Fate;
-use verdicts::Verdict;
 ghost use mathlib.Core.Path.{_≡_};
 ghost use Prim.Native.Nat.{_≤_, _<_};
 ghost use lib.ListN.{length};
 ghost use Rattle.octets.specs.Octets.{front};
+ghost use Rattle.refusals.specs.Refusals.{holdAt};
 ghost use Rattle.commands.specs.Commands.{connected, cleared, offeredOn};
 
-// CONNECT is sent, and the call is active.
-pub fn connect_call(table: Table, slot: usize, call: Call) -> Effect
+// CONNECT is sent, and the call of the slot is active.
+pub fn connect_call(table: Table, slot: usize) -> Effect
     requires { ⌜ slot < 32 ⌝ }
-    ensures { λ r. ⌜ r ≡ connected table slot (Hold.Live call) ⌝ }
+    ensures { λ r. ⌜ r ≡ connected table slot (holdAt table slot) ⌝ }
 {
     let slots = table.slots;
-    let verdict = Verdict {
-        fate: Fate::To(Phase::N10),
-        reply: Reply::Connect,
-        notice: 0,
-    };
-    effects::on_slot(slots, slot, !call.network, call.reference, verdict)
+    let found = slots.slot_at(slot);
+    let hold = found.hold;
+    match hold {
+        Hold::Empty => effects::quiet(slots),
+        Hold::Live(call) => effects::on_slot(
+            slots,
+            slot,
+            !call.network,
+            call.reference,
+            verdicts::turned(Phase::N10, Reply::Connect, 0),
+        ),
+    }
 }
 
-// RELEASE is sent, and T308 runs.
-pub fn clear_call(table: Table, reading: u64, slot: usize, cause: u8, call: Call) -> Effect
+// RELEASE is sent, and T308 of the slot's call runs.
+pub fn clear_call(table: Table, reading: u64, slot: usize, cause: u8) -> Effect
     requires { ⌜ (slot < 32) × (reading ≤ 4000000000000) ⌝ }
-    ensures { λ r. ⌜ r ≡ cleared table reading slot cause (Hold.Live call) ⌝ }
+    ensures { λ r. ⌜ r ≡ cleared table reading slot cause (holdAt table slot) ⌝ }
 {
     let slots = table.slots;
-    let verdict = verdicts::release(reading, false, cause, false);
-    effects::on_slot(slots, slot, !call.network, call.reference, verdict)
+    let found = slots.slot_at(slot);
+    let hold = found.hold;
+    match hold {
+        Hold::Empty => effects::quiet(slots),
+        Hold::Live(call) => effects::on_slot(
+            slots,
+            slot,
+            !call.network,
+            call.reference,
+            verdicts::release(reading, false, cause, false),
+        ),
+    }
 }
 
 // SETUP is sent on a pair, and T303 runs.

@@ -1,7 +1,7 @@
 -- The six events (document 01, "One school, network side" and "Host and timers").
 --   startOf, messageOf, tickOf, connectOf, clearOf, offerOf
 --   heardBy, offered     what an accepted message does; an offer with its slot
--- Each event is the whole answer, the table and the reply, on any input. What is refused is in outcome, what connect, clear and offer
+-- Each event is the whole answer, the table and the reply, on any input. What is refused is in refusals, what connect, clear and offer
 -- do in commands. Assumes nothing.
 use Prim.Native.Nat.{ℕ}
 use mathlib.Core.Bool.{cond}
@@ -22,7 +22,7 @@ use Rattle.effects.specs.Effect.{slotCount, quiet}
 use Rattle.table.specs.declared.Table.{Table}
 use Rattle.table.specs.Effects.{freePair, messageEffect, tickEffect}
 use Rattle.outcome.specs.declared.Started.{Started}
-use Rattle.outcome.specs.Refusals.{messageRefusal, commonRefusal, connectRefusal, clearRefusal, offerRefusal, holdAt}
+use Rattle.refusals.specs.Refusals.{messageRefusal, commonRefusal, connectRefusal, clearRefusal, offerRefusal, holdAt}
 use Rattle.outcome.specs.Outcome.{Outcome, refusedWith, sending, acceptedAs, effectReply, unlessRefused}
 use Rattle.commands.specs.Commands.{connected, cleared, offeredOn}
 

@@ -8,7 +8,6 @@
 // No event has a `requires`: what is wrong with its input is refused by its number. A reply fills the front of the lent
 // room; octets behind it are unchanged. Assumes nothing.
 use calls::Found;
-use calls::Hold;
 use calls::Slots;
 use channels::Channel;
 use channels::Doubts;
@@ -67,13 +66,9 @@ pub fn message(table: Table, label: u64, reading: u64, room: &mut [u8], m: &[u8]
     ensures { λ r. ⌜ (r ≡ messageOf table label reading (length (now (room .entry))) (now (m .entry)) .answer)
         × (now (room .exit) ≡ front (messageOf table label reading (length (now (room .entry))) (now (m .entry)) .reply) (now (room .entry))) ⌝ }
 {
-    let n = outcome::common_refusal(table, label, reading, room.len());
+    let n = refusals::message_refusal(table, label, reading, room.len(), m);
     if n != 0 {
         return outcome::refuse(table, n);
-    }
-    let size = outcome::size_refusal(m);
-    if size != 0 {
-        return outcome::refuse(table, size);
     }
     let effect = hear(table, reading, m);
     outcome::accept(table, reading, effect, false, room)
@@ -84,7 +79,7 @@ pub fn tick(table: Table, label: u64, reading: u64, room: &mut [u8]) -> Answer
     ensures { λ r. ⌜ (r ≡ tickOf table label reading (length (now (room .entry))) .answer)
         × (now (room .exit) ≡ front (tickOf table label reading (length (now (room .entry))) .reply) (now (room .entry))) ⌝ }
 {
-    let n = outcome::common_refusal(table, label, reading, room.len());
+    let n = refusals::common_refusal(table, label, reading, room.len());
     if n != 0 {
         return outcome::refuse(table, n);
     }
@@ -99,22 +94,12 @@ pub fn connect(table: Table, label: u64, reading: u64, room: &mut [u8], slot: u6
     ensures { λ r. ⌜ (r ≡ connectOf table label reading (length (now (room .entry))) slot .answer)
         × (now (room .exit) ≡ front (connectOf table label reading (length (now (room .entry))) slot .reply) (now (room .entry))) ⌝ }
 {
-    let n = outcome::common_refusal(table, label, reading, room.len());
+    let n = refusals::connect_refusal(table, label, reading, room.len(), slot);
     if n != 0 {
         return outcome::refuse(table, n);
     }
-    match outcome::hold_at(table, slot) {
-        Hold::Empty => outcome::refuse(table, 6),
-        Hold::Live(call) => {
-            let phase = call.phase;
-            let wrong = outcome::not_n3(phase);
-            if wrong != 0 {
-                return outcome::refuse(table, wrong);
-            }
-            let effect = commands::connect_call(table, slot as usize, call);
-            outcome::accept(table, reading, effect, false, room)
-        }
-    }
+    let effect = commands::connect_call(table, slot as usize);
+    outcome::accept(table, reading, effect, false, room)
 }
 
 // The host ends the call of a slot.
@@ -129,25 +114,12 @@ pub fn clear(
     ensures { λ r. ⌜ (r ≡ clearOf table label reading (length (now (room .entry))) slot cause .answer)
         × (now (room .exit) ≡ front (clearOf table label reading (length (now (room .entry))) slot cause .reply) (now (room .entry))) ⌝ }
 {
-    let n = outcome::common_refusal(table, label, reading, room.len());
+    let n = refusals::clear_refusal(table, label, reading, room.len(), slot, cause);
     if n != 0 {
         return outcome::refuse(table, n);
     }
-    match outcome::hold_at(table, slot) {
-        Hold::Empty => outcome::refuse(table, 6),
-        Hold::Live(call) => {
-            let phase = call.phase;
-            let wrong = outcome::in_n12(phase);
-            if wrong != 0 {
-                return outcome::refuse(table, wrong);
-            }
-            if !outcome::is_host_cause(cause) {
-                return outcome::refuse(table, 8);
-            }
-            let effect = commands::clear_call(table, reading, slot as usize, cause as u8, call);
-            outcome::accept(table, reading, effect, false, room)
-        }
-    }
+    let effect = commands::clear_call(table, reading, slot as usize, cause as u8);
+    outcome::accept(table, reading, effect, false, room)
 }
 
 // The host offers a call to the user.
@@ -155,11 +127,11 @@ pub fn offer(table: Table, label: u64, reading: u64, room: &mut [u8], body: &[u8
     ensures { λ r. ⌜ (r ≡ offerOf table label reading (length (now (room .entry))) (now (body .entry)) .answer)
         × (now (room .exit) ≡ front (offerOf table label reading (length (now (room .entry))) (now (body .entry)) .reply) (now (room .entry))) ⌝ }
 {
-    let n = outcome::common_refusal(table, label, reading, room.len());
+    let n = refusals::common_refusal(table, label, reading, room.len());
     if n != 0 {
         return outcome::refuse(table, n);
     }
-    let wrong = outcome::body_refusal(body);
+    let wrong = refusals::body_refusal(body);
     if wrong != 0 {
         return outcome::refuse(table, wrong);
     }

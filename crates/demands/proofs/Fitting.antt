@@ -59,8 +59,8 @@ use Rattle.effects.specs.declared.Effect.{Effect}
 use Rattle.effects.specs.Restart.{pairRestart, restartEffect}
 use Rattle.table.specs.declared.Table.{Table}
 use Rattle.table.specs.Effects.{freePair, onPair, admitted, setupEffect, onNoCall, onHold, addressed, globalEffect, fireHold, fired, noRoom}
-use Rattle.outcome.specs.Refusals.{hostCauses}
-use Rattle.outcome.proofs.Causes.{host-small}
+use Rattle.refusals.specs.Refusals.{hostCauses}
+use Rattle.refusals.proofs.Causes.{host-small}
 use Rattle.commands.specs.Commands.{connected, cleared}
 use Rattle.control.specs.Events.{heardBy}
 use Rattle.safety.specs.Tables.{slotAt}

@@ -32,7 +32,7 @@ use Rattle.setup.specs.Offer.{offerFits}
 use Rattle.effects.specs.declared.Effect.{Effect}
 use Rattle.table.specs.declared.Table.{Table}
 use Rattle.table.specs.Effects.{freePair, tickEffect}
-use Rattle.outcome.specs.Refusals.{orElse, holdAt, bodyRefusal, slotRefusal, pairRefusal}
+use Rattle.refusals.specs.Refusals.{orElse, holdAt, bodyRefusal, slotRefusal, pairRefusal}
 use Rattle.outcome.specs.Outcome.{effectReply}
 use Rattle.commands.specs.Commands.{connected, cleared, offeredOn}
 use Rattle.control.specs.Events.{heardBy, offered}

@@ -20,7 +20,7 @@ use Rattle.readback.specs.Replies.{setupMeant}
 use Rattle.effects.specs.declared.Effect.{Effect}
 use Rattle.table.specs.declared.Table.{Table}
 use Rattle.table.specs.Effects.{freePair, tickEffect}
-use Rattle.outcome.specs.Refusals.{holdAt}
+use Rattle.refusals.specs.Refusals.{holdAt}
 use Rattle.commands.specs.Commands.{connected, cleared}
 use Rattle.control.specs.Events.{heardBy}
 use Rattle.control.specs.Happens.{Event, message, tick, connect, clear, offer, happens}

@@ -66,7 +66,7 @@ use Rattle.effects.specs.Effect.{slotCount, turnedHold, flagsAt, replying, onSl
 use Rattle.effects.specs.Restart.{restartStatus, pairRestart, restartEffect}
 use Rattle.table.specs.declared.Table.{Table}
 use Rattle.table.specs.Effects.{freePair, userCall, onPair, admitted, setupEffect, onNoCall, onHold, addressed, globalEffect, noRoom, fireHold, fired}
-use Rattle.outcome.specs.Refusals.{holdAt}
+use Rattle.refusals.specs.Refusals.{holdAt}
 use Rattle.outcome.specs.Outcome.{Outcome, sending, refusedWith, effectReply}
 use Rattle.commands.specs.Commands.{connected, cleared, networkCall, offeredOn}
 use Rattle.control.specs.Events.{heardBy, offered}

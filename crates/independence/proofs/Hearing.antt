@@ -41,7 +41,7 @@ use Rattle.effects.specs.declared.Effect.{Effect}
 use Rattle.effects.specs.Effect.{replying, onSlot, fated, noFlags}
 use Rattle.table.specs.declared.Table.{Table}
 use Rattle.table.specs.Effects as effects
-use Rattle.outcome.specs.Refusals.{orElse, sizeRefusal, messageRefusal}
+use Rattle.refusals.specs.Refusals.{orElse, sizeRefusal, messageRefusal}
 use Rattle.outcome.specs.Outcome.{Outcome, acceptedAs, unlessRefused}
 use Rattle.control.specs.Events.{heardBy}
 use Rattle.independence.specs.Independence.{Heard, Given, givenBy, hear, AcceptedIn, headed, Qualifies}

@@ -19,7 +19,7 @@ use Rattle.header.specs.declared.Header.{Header}
 use Rattle.header.specs.declared.Head.the-variants.{Is}
 use Rattle.header.specs.Header.{headerIn, headOf}
 use Rattle.table.specs.declared.Table.{Table}
-use Rattle.outcome.specs.Refusals.{largestReading}
+use Rattle.refusals.specs.Refusals.{largestReading}
 use Rattle.outcome.specs.Outcome.{Outcome}
 use Rattle.control.specs.Events.{messageOf}
 use Rattle.reload.specs.Reached.{Reached}

@@ -13,7 +13,7 @@ use Rattle.provisioning.specs.declared.Provision.{Provision}
 use Rattle.provisioning.specs.Provisioning.{allBelow, provision}
 use Rattle.table.specs.declared.Table.{Table}
 use Rattle.outcome.specs.declared.Started.{Started}
-use Rattle.outcome.specs.Refusals.{largestReading}
+use Rattle.refusals.specs.Refusals.{largestReading}
 use Rattle.control.specs.Events.{startOf}
 use Rattle.saved.specs.Form.{formOf}
 use Rattle.reading.specs.Reading.{rangeNumbers, pairNumbers, tableWith, tableIn}

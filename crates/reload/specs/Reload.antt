@@ -30,7 +30,7 @@ use Rattle.calls.specs.Calls.{isCall, holdsPair}
 use Rattle.effects.specs.Effect.{slotCount}
 use Rattle.table.specs.declared.Table.{Table}
 use Rattle.outcome.specs.declared.Started.{Started}
-use Rattle.outcome.specs.Refusals.{largestReading, hostCauses, holdAt}
+use Rattle.refusals.specs.Refusals.{largestReading, hostCauses, holdAt}
 use Rattle.control.specs.Events.{startOf}
 use Rattle.saved.specs.Form.{formOf}
 use Rattle.reading.specs.Reading.{rangeNumbers, pairNumbers, tableIn}

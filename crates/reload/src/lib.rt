@@ -38,7 +38,7 @@ fn is_clearing_kept(last: u64, network: bool, clearing: Clearing) -> bool
         }
         return false;
     }
-    outcome::is_host_cause(clearing.cause as u64)
+    refusals::is_host_cause(clearing.cause as u64)
 }
 
 // A state with its timer, side and cause.

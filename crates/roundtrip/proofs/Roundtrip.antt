@@ -27,7 +27,7 @@ use Rattle.calls.specs.Calls.{noSlot}
 use Rattle.effects.specs.Effect.{slotCount}
 use Rattle.table.specs.declared.Table.{Table}
 use Rattle.outcome.specs.declared.Started.{Started}
-use Rattle.outcome.specs.Refusals.{largestReading, hostCauses}
+use Rattle.refusals.specs.Refusals.{largestReading, hostCauses}
 use Rattle.control.specs.Events.{startOf}
 use Rattle.control.specs.Happens.{Event, happens, after}
 use Rattle.saved.specs.Form.{formOf}

@@ -49,8 +49,8 @@ use Rattle.effects.specs.declared.Effect.{Effect}
 use Rattle.effects.specs.Restart.{pairRestart, restartEffect}
 use Rattle.table.specs.declared.Table.{Table}
 use Rattle.table.specs.Effects.{onHold, globalEffect, fireHold, fired, noRoom}
-use Rattle.outcome.specs.Refusals.{hostCauses}
-use Rattle.outcome.proofs.Causes.{member-passes}
+use Rattle.refusals.specs.Refusals.{hostCauses}
+use Rattle.refusals.proofs.Causes.{member-passes}
 use Rattle.commands.specs.Commands.{connected, cleared}
 use Rattle.safety.specs.Tables.{slotAt}
 use Rattle.safety.specs.Sound.{PhaseSound, in-N3, in-N6, in-N9, in-N10, by-host, by-timer, Sound}

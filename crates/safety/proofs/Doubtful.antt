@@ -50,7 +50,7 @@ use Rattle.effects.specs.declared.Effect.{Effect}
 use Rattle.effects.specs.Restart.{pairRestart, restartEffect}
 use Rattle.table.specs.declared.Table.{Table}
 use Rattle.table.specs.Effects.{freePair, onPair, admitted, setupEffect, onNoCall, onHold, addressed, globalEffect, noRoom, fireHold, fired, tickEffect}
-use Rattle.outcome.specs.Refusals.{holdAt}
+use Rattle.refusals.specs.Refusals.{holdAt}
 use Rattle.commands.specs.Commands.{connected, cleared, offeredOn}
 use Rattle.control.specs.Events.{heardBy, offered}
 use Rattle.control.specs.Happens.{Event, message, tick, connect, clear, offer}

@@ -26,7 +26,7 @@ use Rattle.judging.specs.declared.Kind.{Kind}
 use Rattle.judging.specs.declared.Kind.the-variants as kind
 use Rattle.judging.specs.Class.{inN6, inN6or9, inN10}
 use Rattle.judging.specs.Judge.{statusVerdict, contentsVerdict, judgedAs, judge}
-use Rattle.outcome.specs.Refusals.{hostCauses}
+use Rattle.refusals.specs.Refusals.{hostCauses}
 use Rattle.safety.specs.Sound.{PhaseSound, in-N3, in-N6, in-N9, in-N10, by-host, by-timer}
 use Rattle.safety.proofs.Changes.{Turns, stays, goes, turns}
 use Rattle.safety.proofs.Cases.{by-cond}

@@ -23,7 +23,7 @@ use Rattle.calls.specs.Timers.{someDue}
 use Rattle.header.specs.Header.{headOf}
 use Rattle.table.specs.declared.Table.{Table}
 use Rattle.table.specs.Effects.{freePair, tickEffect}
-use Rattle.outcome.specs.Refusals.{orElse, commonRefusal, holdAt, bodyRefusal, slotRefusal, pairRefusal}
+use Rattle.refusals.specs.Refusals.{orElse, commonRefusal, holdAt, bodyRefusal, slotRefusal, pairRefusal}
 use Rattle.outcome.specs.Outcome.{Outcome, sending, acceptedAs, effectReply, unlessRefused}
 use Rattle.commands.specs.Commands.{connected, cleared, offeredOn}
 use Rattle.control.specs.Events.{heardBy, offered}

@@ -53,7 +53,7 @@ use Rattle.effects.specs.Effect.{slotCount, onSlot, assigned, afterGone, isSet,
 use Rattle.effects.specs.Restart.{pairRestart, restartEffect}
 use Rattle.table.specs.declared.Table.{Table}
 use Rattle.table.specs.Effects.{freePair, userCall, onPair, admitted, setupEffect, onNoCall, onHold, addressed, globalEffect, fireHold, fired, noRoom}
-use Rattle.outcome.specs.Refusals.{holdAt}
+use Rattle.refusals.specs.Refusals.{holdAt}
 use Rattle.outcome.specs.Outcome.{Outcome, stored, refusedWith}
 use Rattle.commands.specs.Commands.{connected, cleared, networkCall, offeredOn}
 use Rattle.control.specs.Events.{heardBy, offered}

@@ -43,7 +43,7 @@ use Rattle.effects.specs.declared.Effect.{Effect}
 use Rattle.effects.specs.Restart.{pairRestart, restartEffect}
 use Rattle.table.specs.declared.Table.{Table}
 use Rattle.table.specs.Effects.{freePair, userCall, onPair, admitted, setupEffect, onNoCall, onHold, addressed, globalEffect, fireHold, fired, noRoom}
-use Rattle.outcome.specs.Refusals.{largestReading, holdAt, unclearable, causeRefusal, hostCauses}
+use Rattle.refusals.specs.Refusals.{largestReading, holdAt, unclearable, causeRefusal, hostCauses}
 use Rattle.commands.specs.Commands.{connected, cleared, networkCall, offeredOn}
 use Rattle.control.specs.Events.{heardBy, offered}
 use Rattle.control.specs.Happens.{Event, message, tick, connect, clear, offer}

@@ -33,7 +33,7 @@ use Rattle.effects.specs.declared.Effect.{Effect}
 use Rattle.effects.specs.Effect.{replying}
 use Rattle.table.specs.declared.Table.{Table}
 use Rattle.table.specs.Effects.{freePair, onPair, admitted, setupEffect, onNoCall, addressed, messageEffect, tickEffect}
-use Rattle.outcome.specs.Refusals.{holdAt}
+use Rattle.refusals.specs.Refusals.{holdAt}
 use Rattle.outcome.specs.Outcome.{effectReply}
 use Rattle.commands.specs.Commands.{connected, cleared, offeredOn}
 use Rattle.control.specs.Events.{heardBy, offered}

@@ -31,7 +31,7 @@ use Rattle.setup.specs.Offer.{offerFits}
 use Rattle.effects.specs.Effect.{slotCount}
 use Rattle.table.specs.declared.Table.{Table}
 use Rattle.table.specs.Effects.{freePair}
-use Rattle.outcome.specs.Refusals.{orElse, largestReading, commonRefusal, sizeRefusal, holdAt, notN3, unconnectable, inN12, unclearable, hostCauses, causeRefusal, bodyRefusal, slotRefusal, pairRefusal}
+use Rattle.refusals.specs.Refusals.{orElse, largestReading, commonRefusal, sizeRefusal, holdAt, notN3, unconnectable, inN12, unclearable, hostCauses, causeRefusal, bodyRefusal, slotRefusal, pairRefusal}
 use Rattle.control.specs.Happens.{Event, message, tick, connect, clear, offer}
 use Rattle.safety.specs.Tables.{HasSlots, slotAt}
 use Rattle.safety.specs.FixedAnswers.{labelOf, readingOf, roomOf, Applies, small-room, wrong-label, too-large, too-early, empty-message, long-message, connect-no-slot, connect-empty, clear-no-slot, clear-empty, not-in-N3, in-N12, foreign-cause, long-body, unfit-body, no-empty-slot, no-free-pair}

@@ -36,7 +36,7 @@ use Rattle.calls.specs.First.{place}
 use Rattle.calls.specs.Calls.{isCall, holdsPair}
 use Rattle.effects.specs.Effect.{slotCount}
 use Rattle.table.specs.declared.Table.{Table}
-use Rattle.outcome.specs.Refusals.{largestReading, hostCauses}
+use Rattle.refusals.specs.Refusals.{largestReading, hostCauses}
 use Rattle.saved.specs.Form.{formOf}
 use Rattle.reading.specs.Reading.{rangeNumbers, pairNumbers, rest, behindSlot, slotsIn, tableIn, doubtNumbers}
 use Rattle.reload.specs.Reload.{phaseKept, isAt, callKept, slotKept, isForm, reloadIn, reloadOf, channelLost, isLost, doubtsKept}

@@ -48,7 +48,7 @@ use Rattle.effects.specs.declared.Effect.{Effect}
 use Rattle.effects.specs.Effect.{quiet}
 use Rattle.table.specs.declared.Table.{Table}
 use Rattle.table.specs.Effects.{onNoCall, onHold, addressed, globalEffect, messageEffect}
-use Rattle.outcome.specs.Refusals.{holdAt}
+use Rattle.refusals.specs.Refusals.{holdAt}
 use Rattle.outcome.specs.Outcome.{Outcome, acceptedAs, refusedWith, unlessRefused}
 use Rattle.commands.specs.Commands.{cleared}
 use Rattle.control.specs.Events.{heardBy}

@@ -25,7 +25,7 @@ use Rattle.calls.specs.Calls.{noSlot}
 use Rattle.setup.specs.Offer.{offerFits}
 use Rattle.effects.specs.Effect.{slotCount}
 use Rattle.table.specs.declared.Table.{Table}
-use Rattle.outcome.specs.Refusals.{hostCauses}
+use Rattle.refusals.specs.Refusals.{hostCauses}
 use Rattle.outcome.specs.Outcome.{Outcome}
 use Rattle.control.specs.Events.{startOf}
 use Rattle.control.specs.Happens.{Event, message, tick, connect, clear, offer, happens}

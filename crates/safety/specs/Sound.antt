@@ -19,7 +19,7 @@ use Rattle.calls.specs.declared.Phase.{Phase}
 use Rattle.calls.specs.declared.Phase.the-variants.{N3, N6, N9, N10, N12}
 use Rattle.calls.specs.declared.Call.{Call}
 use Rattle.table.specs.declared.Table.{Table}
-use Rattle.outcome.specs.Refusals.{hostCauses}
+use Rattle.refusals.specs.Refusals.{hostCauses}
 use Rattle.control.specs.Happens.{Event, message, tick, connect, clear, offer}
 use Rattle.reload.specs.Reached.{Reached, BegunInOctets}
 use Rattle.safety.specs.Tables.{HasSlots, HasCall, Holds, InDoubt}

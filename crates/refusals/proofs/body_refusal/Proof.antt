@@ -1,11 +1,11 @@
--- `outcome::body_refusal` meets its contract: by the length, and by what the body holds.
+-- `refusals::body_refusal` meets its contract: by the length, and by what the body holds.
 -- Assumes nothing.
 use borrow.Author.Needs.{needs}
 use native.Mathlib.Omega.{arith}
 use mathlib.Core.Path.{sym, _∙_}
 use borrow.Author.Tests.{lt-ltb, le-ltb}
-use Rattle.outcome.proofs.body_refusal.Statement.{statement}
-use Rattle.outcome.proofs.body_refusal.Tie as tie
+use Rattle.refusals.proofs.body_refusal.Statement.{statement}
+use Rattle.refusals.proofs.body_refusal.Tie as tie
 
 returns : tie.Need-returns
 returns c = (rw (lt-ltb _ _ (c .if1 .taken)), λ e. absurd (omega (arith, e)))

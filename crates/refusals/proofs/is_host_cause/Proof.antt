@@ -1,4 +1,4 @@
--- `outcome::is_host_cause` meets its contract. The loop's invariant: the cause is in the list if it is in what is left.
+-- `refusals::is_host_cause` meets its contract. The loop's invariant: the cause is in the list if it is in what is left.
 -- Assumes nothing.
 use borrow.Author.Needs.{needs}
 use Prim.Native.Nat.{_≤_, _-_}
@@ -7,9 +7,9 @@ use mathlib.Core.Path.{_≡_, refl, sym, _∙_}
 use lib.ListN.{drop}
 use Rattle.traffic.specs.Traffic.{member}
 use Rattle.traffic.proofs.Member.{member-here, member-on, member-end}
-use Rattle.outcome.specs.Refusals.{hostCauses}
-use Rattle.outcome.proofs.is_host_cause.Statement.{statement}
-use Rattle.outcome.proofs.is_host_cause.Tie as tie
+use Rattle.refusals.specs.Refusals.{hostCauses}
+use Rattle.refusals.proofs.is_host_cause.Statement.{statement}
+use Rattle.refusals.proofs.is_host_cause.Tie as tie
 
 abbrev Inv-loop : tie.InvT-loop
 Inv-loop cause i₀ i = (i ≤ 17) × (member cause hostCauses ≡ member cause (drop i hostCauses))

@@ -1,9 +1,9 @@
--- `outcome::common_refusal` meets its contract: each test of the code is a test of `commonRefusal`, in its order.
+-- `refusals::common_refusal` meets its contract: each test of the code is a test of `commonRefusal`, in its order.
 -- Assumes nothing.
 use native.Mathlib.Omega.{arith}
 use borrow.Author.Tests.{lt-ltb, le-ltb, eq-eqb, ne-eqb}
-use Rattle.outcome.proofs.common_refusal.Statement.{statement}
-use Rattle.outcome.proofs.common_refusal.Tie as tie
+use Rattle.refusals.proofs.common_refusal.Statement.{statement}
+use Rattle.refusals.proofs.common_refusal.Tie as tie
 
 returns : tie.Need-returns
 returns c = (rw (lt-ltb _ _ (c .if1 .taken)), (λ e. absurd (omega (arith, e))))

@@ -1,4 +1,4 @@
--- `outcome::hold_at` meets its contract: a slot past the end reads as empty.
+-- `refusals::hold_at` meets its contract: a slot past the end reads as empty.
 -- Assumes nothing.
 use borrow.Author.Needs.{needs}
 use native.Mathlib.Omega.{arith}
@@ -6,9 +6,9 @@ use mathlib.Core.Path.{_≡_}
 use Prim.{tt}
 use lib.ListN.{length, length-map, List·getD-eq-default}
 use Rattle.calls.specs.Calls.{noSlot}
-use Rattle.outcome.proofs.Holds.{within-below}
-use Rattle.outcome.proofs.hold_at.Statement.{statement}
-use Rattle.outcome.proofs.hold_at.Tie as tie
+use Rattle.refusals.proofs.Holds.{within-below}
+use Rattle.refusals.proofs.hold_at.Statement.{statement}
+use Rattle.refusals.proofs.hold_at.Tie as tie
 
 returns : tie.Need-returns
 returns c = let a = c .before .args in

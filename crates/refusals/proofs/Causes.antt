@@ -11,7 +11,7 @@ use borrow.Author.Tests.{eqb-true, ltb-true}
 use Rattle.traffic.specs.Traffic.{member}
 use Rattle.channels.specs.Some.{someOf}
 use Rattle.channels.proofs.Cases.{by-test, clash}
-use Rattle.outcome.specs.Refusals.{hostCauses}
+use Rattle.refusals.specs.Refusals.{hostCauses}
 
 pub member-passes : (q : ℕ → Bool) (n : ℕ) (xs : List ℕ) → someOf (λ x. not (q x)) xs ≡ false → member n xs ≡ true → q n ≡ true
 member-passes q n [] all e = clash e refl

@@ -1,8 +1,8 @@
--- `outcome::size_refusal` meets its contract: by the number of octets.
+-- `refusals::size_refusal` meets its contract: by the number of octets.
 -- Assumes nothing.
 use borrow.Author.Tests.{lt-ltb, le-ltb, eq-eqb, ne-eqb}
-use Rattle.outcome.proofs.size_refusal.Statement.{statement}
-use Rattle.outcome.proofs.size_refusal.Tie as tie
+use Rattle.refusals.proofs.size_refusal.Statement.{statement}
+use Rattle.refusals.proofs.size_refusal.Tie as tie
 
 returns : tie.Need-returns
 returns c = rw (eq-eqb _ _ (c .if1 .taken))
