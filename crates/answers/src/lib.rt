@@ -3,7 +3,7 @@
 //   put_flags       slot numbers in ascending order, joined by commas, or `-` for none
 //   put_answer      a whole answer line
 // Each asks for room; octets around what it writes are unchanged. Assumes nothing.
-use calls::Flags;
+use slots::Flags;
 ghost use mathlib.Core.Path.{_≡_};
 ghost use mathlib.Core.Bool.{true, cond};
 ghost use mathlib.Core.List.{[]};

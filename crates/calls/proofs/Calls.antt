@@ -1,22 +1,20 @@
--- Laws of slots: what names a call, what a slot holds, and pairs held.
+-- Laws of one slot: what names a call, and what a slot holds.
 --   call-not-empty         a slot with a call is not empty
 --   call-named-once        a slot's call has one side and one reference
---   held-holds             a pair is among those held if and only if some slot holds it
+--   hold-pair              the entry of a slot is a pair if and only if its call is on it
 -- Assumes nothing.
 use Prim.Native.Nat.{ℕ}
 use mathlib.Core.Path.{_≡_, refl}
 use mathlib.Core.Bool.{Bool, true, false, Bool·beq}
-use mathlib.Core.List.{List, [], _∷_}
 use lib.Dec.{eqb}
 use borrow.Author.Tests.{eqb-true}
-use Rattle.channels.specs.Some.{someOf}
-use Rattle.channels.specs.Channels.{isEntry, among}
+use Rattle.channels.specs.Channels.{isEntry}
 use Rattle.channels.proofs.Cases.{by-test, clash}
 use Rattle.calls.specs.declared.Call.{Call}
 use Rattle.calls.specs.declared.Hold.{Hold}
 use Rattle.calls.specs.declared.Hold.the-variants.{Empty, Live}
 use Rattle.calls.specs.declared.Slot.{Slot}
-use Rattle.calls.specs.Calls.{isEmpty, emptyHold, named, isCall, onPair, pairOf, holdsPair, heldOf}
+use Rattle.calls.specs.Calls.{isEmpty, emptyHold, named, isCall, onPair, pairOf}
 
 pub hold-not-empty : (n : Bool) (r : ℕ) (h : Hold) → named n r h ≡ true → emptyHold h ≡ false
 hold-not-empty n r Empty e = clash e refl
@@ -56,7 +54,3 @@ call-named-once n m r q s e g = hold-named-once n m r q (s .hold) e g
 pub hold-pair : (p v : ℕ) (h : Hold) → isEntry p v (record { channel = pairOf h }) ≡ onPair p v h
 hold-pair p v Empty = refl
 hold-pair p v (Live c) = refl
-
-pub held-holds : (p v : ℕ) (ss : List Slot) → among p v (heldOf ss .entries) ≡ someOf (holdsPair p v) ss
-held-holds p v [] = refl
-held-holds p v (s ∷ ss) = rw (hold-pair p v (s .hold), held-holds p v ss)

@@ -11,7 +11,7 @@ use Rattle.calls.specs.declared.Phase.the-variants.{N6, N10}
 use Rattle.calls.specs.declared.Call.{Call}
 use Rattle.calls.specs.declared.Hold.{Hold}
 use Rattle.calls.specs.declared.Hold.the-variants.{Empty, Live}
-use Rattle.calls.specs.Calls.{unusedReference}
+use Rattle.slots.specs.Slots.{unusedReference}
 use Rattle.replies.specs.declared.Reply.the-variants as reply
 use Rattle.replies.specs.Reply.{setupOctets}
 use Rattle.verdicts.specs.Verdict.{turned}

@@ -9,11 +9,11 @@ use mathlib.Core.List.{List}
 use lib.ListN.{replicate}
 use Rattle.channels.specs.Doubts.{noDoubts}
 use Rattle.provisioning.specs.Provisioning.{provision}
-use Rattle.calls.specs.declared.Found.{Found}
-use Rattle.calls.specs.declared.Found.the-variants.{Nothing, At}
-use Rattle.calls.specs.First.{place}
 use Rattle.calls.specs.Calls.{noSlot, isEmpty}
-use Rattle.calls.specs.Timers.{someDue}
+use Rattle.first.specs.declared.Found.{Found}
+use Rattle.first.specs.declared.Found.the-variants.{Nothing, At}
+use Rattle.first.specs.First.{place}
+use Rattle.slots.specs.Timers.{someDue}
 use Rattle.header.specs.declared.Head.{Head}
 use Rattle.header.specs.declared.Head.the-variants.{Ignored, Is}
 use Rattle.header.specs.Header.{headOf}

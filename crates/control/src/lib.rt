@@ -7,14 +7,14 @@
 // What they answer is outcome's `Answer` and `Started`.
 // No event has a `requires`: what is wrong with its input is refused by its number. A reply fills the front of the lent
 // room; octets behind it are unchanged. Assumes nothing.
-use calls::Found;
-use calls::Slots;
 use channels::Channel;
 use channels::Doubts;
 use effects::Effect;
+use first::Found;
 use header::Head;
 use outcome::Answer;
 use outcome::Started;
+use slots::Slots;
 use table::Table;
 ghost use mathlib.Core.Path.{_≡_};
 ghost use Prim.Native.Nat.{_≤_};

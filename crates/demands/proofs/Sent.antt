@@ -15,11 +15,12 @@ use borrow.Author.Tests.{eqb-true, ltb-false}
 use Rattle.channels.specs.declared.Channel.{Channel}
 use Rattle.channels.specs.declared.Channel.the-variants.{None, Pair}
 use Rattle.channels.proofs.Cases.{by-test, both}
-use Rattle.calls.specs.declared.Found.{Found}
-use Rattle.calls.specs.declared.Found.the-variants.{Nothing, At}
-use Rattle.calls.specs.First.{place}
-use Rattle.calls.specs.Calls.{isEmpty, unusedReference}
-use Rattle.calls.specs.Timers.{nextDue}
+use Rattle.calls.specs.Calls.{isEmpty}
+use Rattle.first.specs.declared.Found.{Found}
+use Rattle.first.specs.declared.Found.the-variants.{Nothing, At}
+use Rattle.first.specs.First.{place}
+use Rattle.slots.specs.Slots.{unusedReference}
+use Rattle.slots.specs.Timers.{nextDue}
 use Rattle.header.specs.Header.{headOf}
 use Rattle.items.specs.Items.{wholeFrom}
 use Rattle.replies.specs.Reply.{isSilent, meant}

@@ -11,7 +11,7 @@ use mathlib.Core.List.{List, [], _∷_}
 use lib.Dec.{eqb}
 use Rattle.channels.specs.declared.Channel.{Channel}
 use Rattle.channels.specs.declared.Channel.the-variants.{None, Pair}
-use Rattle.calls.specs.Calls.{unusedReference}
+use Rattle.slots.specs.Slots.{unusedReference}
 use Rattle.header.specs.Header.{headOf}
 use Rattle.replies.specs.Message.{Message}
 use Rattle.replies.specs.Reply.{isSilent, meant}

@@ -20,10 +20,10 @@ use Rattle.calls.specs.declared.Call.{Call}
 use Rattle.calls.specs.declared.Hold.{Hold}
 use Rattle.calls.specs.declared.Hold.the-variants.{Empty, Live}
 use Rattle.calls.specs.declared.Slot.{Slot}
-use Rattle.calls.specs.declared.Slots.{Slots}
-use Rattle.calls.specs.declared.Flags.{Flags}
-use Rattle.calls.specs.declared.Gone.{Gone}
 use Rattle.calls.specs.Calls.{moved, noSlot}
+use Rattle.slots.specs.declared.Slots.{Slots}
+use Rattle.slots.specs.declared.Flags.{Flags}
+use Rattle.slots.specs.declared.Gone.{Gone}
 use Rattle.replies.specs.declared.Reply.{Reply}
 use Rattle.replies.specs.declared.Reply.the-variants as reply
 use Rattle.verdicts.specs.declared.Fate.{Fate}

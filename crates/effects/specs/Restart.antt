@@ -9,8 +9,9 @@ use lib.Dec.{eqb, ltb}
 use Rattle.channels.specs.Channels.{permanent, knownVpci}
 use Rattle.channels.specs.declared.Pool.{Pool}
 use Rattle.channels.specs.declared.Doubting.the-variants.{End, EndAll}
-use Rattle.calls.specs.declared.Slots.{Slots}
-use Rattle.calls.specs.Calls.{isLive, holdsPair, gone}
+use Rattle.calls.specs.Calls.{isLive, holdsPair}
+use Rattle.slots.specs.declared.Slots.{Slots}
+use Rattle.slots.specs.Slots.{gone}
 use Rattle.elements.specs.declared.ConnectionRead.{ConnectionRead}
 use Rattle.elements.specs.declared.ConnectionRead.the-variants as connectionRead
 use Rattle.elements.specs.declared.RestartRead.{RestartRead}

@@ -7,18 +7,18 @@
 //   restart                RESTART
 // `on_slot` and `assign` ask for a slot below 32. Assumes nothing.
 use calls::Call;
-use calls::Flags;
-use calls::Gone;
 use calls::Hold;
 use calls::Phase;
 use calls::Slot;
-use calls::Slots;
 use channels::Doubting;
 use channels::Pool;
 use elements::ConnectionRead;
 use elements::RestartRead;
 use replies::Diagnostic;
 use replies::Reply;
+use slots::Flags;
+use slots::Gone;
+use slots::Slots;
 use verdicts::Fate;
 use verdicts::Verdict;
 ghost use mathlib.Core.Path.{_≡_};

@@ -1,5 +1,4 @@
 // Reads an event script from standard input, and writes one answer line for each event.
-use calls::Flags;
 use outcome::Answer;
 use outcome::Started;
 use saved::Saved;
@@ -7,6 +6,7 @@ use script::Clock;
 use script::Line;
 use script::List;
 use script::Request;
+use slots::Flags;
 use table::Table;
 ghost use mathlib.Core.Path.{_≡_};
 ghost use Prim.Native.Nat.{_+_, _≤_};

@@ -19,7 +19,7 @@ use Rattle.calls.specs.declared.Call.{Call}
 use Rattle.calls.specs.declared.Hold.{Hold}
 use Rattle.calls.specs.declared.Hold.the-variants.{Live}
 use Rattle.calls.specs.Calls.{noSlot, moved}
-use Rattle.calls.specs.Timers.{someDue}
+use Rattle.slots.specs.Timers.{someDue}
 use Rattle.replies.specs.declared.Reply.{Reply}
 use Rattle.replies.specs.declared.Reply.the-variants as reply
 use Rattle.replies.specs.Reply.{replyOctets}

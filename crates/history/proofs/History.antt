@@ -16,7 +16,8 @@ use Rattle.channels.specs.Channels.{among, permitted}
 use Rattle.channels.specs.declared.Pool.{Pool}
 use Rattle.channels.proofs.Cases.{by-test, clash}
 use Rattle.channels.proofs.Lowest as lowest
-use Rattle.calls.specs.Calls.{holdsPair, heldOf}
+use Rattle.calls.specs.Calls.{holdsPair}
+use Rattle.slots.specs.Slots.{heldOf}
 use Rattle.table.specs.declared.Table.{Table}
 use Rattle.control.specs.Happens.{Event, happens, after}
 use Rattle.safety.specs.Sound.{Sound, AllInOctets}

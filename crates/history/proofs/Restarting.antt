@@ -17,7 +17,8 @@ use Rattle.channels.specs.declared.Pool.{Pool}
 use Rattle.channels.specs.declared.Doubting.the-variants.{End}
 use Rattle.channels.proofs.Cases.{by-test, clash, both}
 use Rattle.channels.proofs.InDoubt.{ended-among}
-use Rattle.calls.specs.Calls.{isLive, holdsPair, gone}
+use Rattle.calls.specs.Calls.{isLive, holdsPair}
+use Rattle.slots.specs.Slots.{gone}
 use Rattle.header.specs.declared.Head.{Head}
 use Rattle.header.specs.declared.Head.the-variants.{Ignored, Is}
 use Rattle.header.specs.Header.{headOf}

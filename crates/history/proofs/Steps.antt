@@ -14,7 +14,7 @@ use lib.ListN.{length, set, length-set}
 use lib.Seq.{getD-set-same, getD-set-other}
 use borrow.Author.Tests.{eqb-true, eqb-false}
 use Rattle.channels.proofs.Lowest as lowest
-use Rattle.calls.proofs.Calls.{held-holds}
+use Rattle.slots.proofs.Held.{held-holds}
 use Rattle.channels.specs.Some.{someOf}
 use Rattle.channels.specs.Channels.{among, permitted, permanent, knownVpci}
 use Rattle.channels.specs.Doubts.{doubtRoom}
@@ -31,12 +31,13 @@ use Rattle.calls.specs.declared.Call.{Call}
 use Rattle.calls.specs.declared.Hold.{Hold}
 use Rattle.calls.specs.declared.Hold.the-variants.{Empty, Live}
 use Rattle.calls.specs.declared.Slot.{Slot}
-use Rattle.calls.specs.declared.Found.{Found}
-use Rattle.calls.specs.declared.Found.the-variants.{Nothing, At}
-use Rattle.calls.specs.First.{place}
-use Rattle.calls.specs.Calls.{noSlot, isEmpty, isLive, isCall, onPair as pairHeld, holdsPair, unusedReference, gone, heldOf}
-use Rattle.calls.specs.Timers.{nextDue}
-use Rattle.calls.proofs.First.{placed}
+use Rattle.calls.specs.Calls.{noSlot, isEmpty, isLive, isCall, onPair as pairHeld, holdsPair}
+use Rattle.first.specs.declared.Found.{Found}
+use Rattle.first.specs.declared.Found.the-variants.{Nothing, At}
+use Rattle.first.specs.First.{place}
+use Rattle.first.proofs.First.{placed}
+use Rattle.slots.specs.Slots.{unusedReference, gone, heldOf}
+use Rattle.slots.specs.Timers.{nextDue}
 use Rattle.header.specs.declared.Header.{Header}
 use Rattle.header.specs.declared.Head.{Head}
 use Rattle.header.specs.declared.Head.the-variants.{Ignored, Is}

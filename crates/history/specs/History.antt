@@ -25,12 +25,12 @@ use Rattle.channels.specs.declared.Channel.the-variants.{Pair}
 use Rattle.calls.specs.declared.Phase.{Phase}
 use Rattle.calls.specs.declared.Phase.the-variants.{N3, N6, N9, N10, N12}
 use Rattle.calls.specs.declared.Call.{Call}
-use Rattle.calls.specs.declared.Found.the-variants.{At}
-use Rattle.calls.specs.Timers.{nextDue}
 use Rattle.calls.specs.declared.Hold.{Hold}
 use Rattle.calls.specs.declared.Hold.the-variants.{Empty, Live}
 use Rattle.calls.specs.declared.Slot.{Slot}
 use Rattle.calls.specs.Calls.{noSlot, moved, holdsPair}
+use Rattle.first.specs.declared.Found.the-variants.{At}
+use Rattle.slots.specs.Timers.{nextDue}
 use Rattle.header.specs.declared.Head.{Head}
 use Rattle.header.specs.declared.Head.the-variants.{Ignored, Is}
 use Rattle.header.specs.Header.{headOf}

@@ -16,7 +16,7 @@ use Rattle.reorder.proofs.Commute.{commute-sym, commute-by, commute-refused}
 use Rattle.channels.proofs.Cases.{by-test, clash}
 use Rattle.calls.specs.declared.Slot.{Slot}
 use Rattle.calls.specs.Calls.{noSlot, isEmpty}
-use Rattle.calls.proofs.First.{Off, first-after, place-after, upd-comm}
+use Rattle.first.proofs.First.{Off, first-after, place-after, upd-comm}
 use Rattle.header.specs.declared.Header.{Header}
 use Rattle.effects.specs.Effect.{fated}
 use Rattle.table.specs.declared.Table.{Table}

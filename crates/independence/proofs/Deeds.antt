@@ -17,10 +17,10 @@ use Rattle.channels.specs.Channels.{taken, lowest}
 use Rattle.calls.specs.declared.Hold.{Hold}
 use Rattle.calls.specs.declared.Hold.the-variants.{Empty, Live}
 use Rattle.calls.specs.declared.Slot.{Slot}
-use Rattle.calls.specs.declared.Found.{Found}
-use Rattle.calls.specs.declared.Found.the-variants.{Nothing, At}
-use Rattle.calls.specs.First.{place, first, upd}
 use Rattle.calls.specs.Calls.{noSlot, isEmpty, isCall, entryOf}
+use Rattle.first.specs.declared.Found.{Found}
+use Rattle.first.specs.declared.Found.the-variants.{Nothing, At}
+use Rattle.first.specs.First.{place, first, upd}
 use Rattle.header.specs.declared.Header.{Header}
 use Rattle.replies.specs.declared.Reply.{Reply}
 use Rattle.replies.specs.declared.Reply.the-variants as reply

@@ -19,12 +19,12 @@ use Rattle.calls.specs.declared.Phase.{Phase}
 use Rattle.calls.specs.declared.Hold.{Hold}
 use Rattle.calls.specs.declared.Hold.the-variants.{Empty, Live}
 use Rattle.calls.specs.declared.Slot.{Slot}
-use Rattle.calls.specs.declared.Found.{Found}
-use Rattle.calls.specs.declared.Found.the-variants.{Nothing, At}
-use Rattle.calls.specs.First.{upd}
 use Rattle.calls.specs.Calls.{isEmpty, emptyHold, named, isCall, entryOf}
-use Rattle.calls.proofs.First.{Off}
 use Rattle.calls.proofs.Calls.{call-not-empty, call-named-once}
+use Rattle.first.specs.declared.Found.{Found}
+use Rattle.first.specs.declared.Found.the-variants.{Nothing, At}
+use Rattle.first.specs.First.{upd}
+use Rattle.first.proofs.First.{Off}
 use Rattle.header.specs.declared.Header.{Header}
 use Rattle.setup.specs.declared.Admission.{Admission}
 use Rattle.setup.specs.declared.Admission.the-variants.{Admitted, Refused}

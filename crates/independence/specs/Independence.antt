@@ -14,7 +14,7 @@ use mathlib.Core.List.{List, map}
 use lib.Dec.{eqb}
 use lib.ListN.{length, getD}
 use Rattle.reorder.specs.Reorder.{answers, final, Order, reordered}
-use Rattle.calls.specs.declared.Flags.{Flags}
+use Rattle.slots.specs.declared.Flags.{Flags}
 use Rattle.header.specs.declared.Header.{Header}
 use Rattle.header.specs.declared.Head.the-variants.{Is}
 use Rattle.header.specs.Header.{headerIn, headOf}

@@ -4,8 +4,8 @@
 //   settle, accept      the answer of an accepted event: its reading is stored, its reply written
 // Only `accept` has a `requires`: a room of 1,024 octets. It is no entry point; no event of control has a `requires`.
 // Assumes nothing.
-use calls::Flags;
 use effects::Effect;
+use slots::Flags;
 use table::Table;
 ghost use mathlib.Core.Path.{_≡_};
 ghost use Prim.Native.Nat.{_≤_};

@@ -21,7 +21,7 @@ use Rattle.channels.specs.declared.Pool.{Pool}
 use Rattle.channels.specs.Doubts.{doubtsOf}
 use Rattle.provisioning.specs.Provisioning.{numbered, provision}
 use Rattle.calls.specs.declared.Slot.{Slot}
-use Rattle.calls.specs.declared.Slots.{Slots}
+use Rattle.slots.specs.declared.Slots.{Slots}
 use Rattle.reading.specs.Reading.{twoAt, eightAt, rest, numbersIn, least, listIn, entriesIn, slotIn, behindSlot, slotsIn, tableWith}
 
 -- the first k numbers of the contents are read

@@ -25,7 +25,8 @@ use Rattle.calls.specs.declared.Phase.the-variants.{N3, N6, N9, N10, N12}
 use Rattle.calls.specs.declared.Call.{Call}
 use Rattle.calls.specs.declared.Hold.the-variants.{Live}
 use Rattle.calls.specs.declared.Slot.{Slot}
-use Rattle.calls.specs.Calls.{slotsOf, noSlot}
+use Rattle.calls.specs.Calls.{noSlot}
+use Rattle.slots.specs.Slots.{slotsOf}
 use Rattle.provisioning.specs.Provisioning.{entryAt, numbered, provision}
 use Rattle.table.specs.declared.Table.{Table}
 

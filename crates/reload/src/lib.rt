@@ -4,12 +4,12 @@
 // written anew and must be the octets that came. So each table has one saved form. `reload` has no `requires`. Assumes nothing.
 use calls::Call;
 use calls::Clearing;
-use calls::Found;
 use calls::Hold;
 use calls::Phase;
 use channels::Channel;
 use channels::Doubts;
 use channels::Entry;
+use first::Found;
 use outcome::Started;
 use table::Table;
 ghost use mathlib.Core.Path.{_≡_};

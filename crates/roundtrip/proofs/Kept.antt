@@ -17,12 +17,12 @@ use Rattle.calls.specs.declared.Call.{Call}
 use Rattle.calls.specs.declared.Hold.{Hold}
 use Rattle.calls.specs.declared.Hold.the-variants.{Empty, Live}
 use Rattle.calls.specs.declared.Slot.{Slot}
-use Rattle.calls.specs.declared.Found.{Found}
-use Rattle.calls.specs.declared.Found.the-variants.{Nothing, At}
-use Rattle.calls.specs.First.{place}
 use Rattle.calls.specs.Calls.{noSlot, named, onPair, isCall, holdsPair}
-use Rattle.calls.proofs.First.{placed, unplaced}
 use Rattle.calls.proofs.Calls.{call-named}
+use Rattle.first.specs.declared.Found.{Found}
+use Rattle.first.specs.declared.Found.the-variants.{Nothing, At}
+use Rattle.first.specs.First.{place}
+use Rattle.first.proofs.First.{placed, unplaced}
 use Rattle.table.specs.declared.Table.{Table}
 use Rattle.reload.specs.Reload.{phaseKept, isAt, callKept, holdKept, slotKept}
 use Rattle.safety.specs.Tables.{slotAt, HasCall}

@@ -11,7 +11,7 @@ use Rattle.channels.specs.Doubts.{doubtsOf}
 use Rattle.provisioning.specs.Provisioning.{provision}
 use Rattle.provisioning.proofs.Accepted.{accepted-lists, ranges-lists}
 use Rattle.channels.specs.declared.Pool.{Pool}
-use Rattle.calls.specs.declared.Slots.{Slots}
+use Rattle.slots.specs.declared.Slots.{Slots}
 use Rattle.table.specs.declared.Table.{Table}
 use Rattle.fields.specs.Fields.{two, eight, field}
 use Rattle.saved.specs.Form.{joined, callFields, formOf}

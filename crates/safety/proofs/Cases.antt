@@ -8,7 +8,7 @@ use Prim.Native.Nat.{ℕ}
 use mathlib.Core.Path.{_≡_, refl}
 use mathlib.Core.Bool.{Bool, true, false, cond, _||_, Bool·beq}
 use Rattle.channels.proofs.Cases.{clash}
-use Rattle.calls.specs.declared.Found.the-variants.{At}
+use Rattle.first.specs.declared.Found.the-variants.{At}
 
 pub by-cond : {A : Type 0} (P : A → Type 0) (b : Bool) (x y : A) → P x → P y → P (cond b x y)
 by-cond P true x y a b = a

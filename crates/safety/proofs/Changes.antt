@@ -22,9 +22,10 @@ use Rattle.calls.specs.declared.Phase.{Phase}
 use Rattle.calls.specs.declared.Call.{Call}
 use Rattle.calls.specs.declared.Hold.the-variants.{Live}
 use Rattle.calls.specs.declared.Slot.{Slot}
-use Rattle.calls.specs.declared.Found.the-variants.{At}
-use Rattle.calls.specs.First.{place}
-use Rattle.calls.specs.Calls.{moved, noSlot, isEmpty, isCall, emptied, unusedReference}
+use Rattle.calls.specs.Calls.{moved, noSlot, isEmpty, isCall, emptied}
+use Rattle.first.specs.declared.Found.the-variants.{At}
+use Rattle.first.specs.First.{place}
+use Rattle.slots.specs.Slots.{unusedReference}
 use Rattle.header.specs.Header.{headerIn}
 use Rattle.verdicts.specs.declared.Fate.{Fate}
 use Rattle.verdicts.specs.declared.Fate.the-variants as fate

@@ -15,11 +15,11 @@ use borrow.Author.Tests.{eqb-true, eqb-false, ne-eqb, eq-eqb}
 use Rattle.channels.specs.declared.Channel.{Channel}
 use Rattle.channels.specs.declared.Channel.the-variants as channel
 use Rattle.channels.proofs.Cases.{by-test}
-use Rattle.calls.specs.declared.Found.{Found}
-use Rattle.calls.specs.declared.Found.the-variants.{Nothing, At}
-use Rattle.calls.specs.First.{place}
 use Rattle.calls.specs.Calls.{isEmpty}
-use Rattle.calls.specs.Timers.{someDue}
+use Rattle.first.specs.declared.Found.{Found}
+use Rattle.first.specs.declared.Found.the-variants.{Nothing, At}
+use Rattle.first.specs.First.{place}
+use Rattle.slots.specs.Timers.{someDue}
 use Rattle.header.specs.Header.{headOf}
 use Rattle.table.specs.declared.Table.{Table}
 use Rattle.table.specs.Effects.{freePair, tickEffect}

@@ -24,12 +24,13 @@ use Rattle.calls.specs.declared.Call.{Call}
 use Rattle.calls.specs.declared.Hold.{Hold}
 use Rattle.calls.specs.declared.Hold.the-variants.{Empty, Live}
 use Rattle.calls.specs.declared.Slot.{Slot}
-use Rattle.calls.specs.declared.Found.{Found}
-use Rattle.calls.specs.declared.Found.the-variants.{Nothing, At}
-use Rattle.calls.specs.First.{place}
-use Rattle.calls.specs.Calls.{moved, flagsOf, noSlot, isEmpty, isLive, isCall, holdsPair, onPair as pairHeld, unusedReference, emptied, gone}
-use Rattle.calls.specs.Timers.{nextDue}
-use Rattle.calls.proofs.First.{placed}
+use Rattle.calls.specs.Calls.{moved, noSlot, isEmpty, isLive, isCall, holdsPair, onPair as pairHeld, emptied}
+use Rattle.first.specs.declared.Found.{Found}
+use Rattle.first.specs.declared.Found.the-variants.{Nothing, At}
+use Rattle.first.specs.First.{place}
+use Rattle.first.proofs.First.{placed}
+use Rattle.slots.specs.Slots.{flagsOf, unusedReference, gone}
+use Rattle.slots.specs.Timers.{nextDue}
 use Rattle.header.specs.declared.Header.{Header}
 use Rattle.header.specs.declared.Head.{Head}
 use Rattle.header.specs.declared.Head.the-variants.{Ignored, Is}

@@ -21,8 +21,8 @@ use Rattle.calls.specs.declared.Phase.the-variants.{N10}
 use Rattle.calls.specs.declared.Call.{Call}
 use Rattle.calls.specs.declared.Hold.the-variants.{Live}
 use Rattle.calls.specs.declared.Slot.{Slot}
-use Rattle.calls.specs.declared.Flags.{Flags}
 use Rattle.calls.specs.Calls.{moved, noSlot}
+use Rattle.slots.specs.declared.Flags.{Flags}
 use Rattle.effects.specs.Effect.{slotCount, noFlags, flagsAt}
 use Rattle.table.specs.declared.Table.{Table}
 use Rattle.control.specs.Happens.{Event}

@@ -26,12 +26,13 @@ use Rattle.calls.specs.declared.Call.{Call}
 use Rattle.calls.specs.declared.Hold.{Hold}
 use Rattle.calls.specs.declared.Hold.the-variants.{Empty, Live}
 use Rattle.calls.specs.declared.Slot.{Slot}
-use Rattle.calls.specs.declared.Found.{Found}
-use Rattle.calls.specs.declared.Found.the-variants.{Nothing, At}
-use Rattle.calls.specs.First.{place}
-use Rattle.calls.specs.Calls.{moved, noSlot, isEmpty, isLive, isCall, holdsPair, emptied, gone}
-use Rattle.calls.specs.Timers.{nextDue, someDue}
-use Rattle.calls.proofs.First.{placed}
+use Rattle.calls.specs.Calls.{moved, noSlot, isEmpty, isLive, isCall, holdsPair, emptied}
+use Rattle.first.specs.declared.Found.{Found}
+use Rattle.first.specs.declared.Found.the-variants.{Nothing, At}
+use Rattle.first.specs.First.{place}
+use Rattle.first.proofs.First.{placed}
+use Rattle.slots.specs.Slots.{gone}
+use Rattle.slots.specs.Timers.{nextDue, someDue}
 use Rattle.header.specs.declared.Header.{Header}
 use Rattle.header.specs.declared.Head.{Head}
 use Rattle.header.specs.declared.Head.the-variants.{Ignored, Is}

@@ -20,13 +20,14 @@ use Rattle.channels.proofs.Cases.{by-test, both}
 use Rattle.calls.specs.declared.Phase.the-variants.{N10}
 use Rattle.calls.specs.declared.Hold.{Hold}
 use Rattle.calls.specs.declared.Hold.the-variants.{Empty, Live}
-use Rattle.calls.specs.declared.Found.{Found}
-use Rattle.calls.specs.declared.Found.the-variants.{Nothing, At}
-use Rattle.calls.specs.First.{place}
-use Rattle.calls.specs.Calls.{noSlot, isEmpty, isLive, isCall, holdsPair, unusedReference}
-use Rattle.calls.specs.Timers.{nextDue}
-use Rattle.calls.proofs.First.{unplaced}
-use Rattle.calls.proofs.Unused.{unused-found, unused-is-unused}
+use Rattle.calls.specs.Calls.{noSlot, isEmpty, isLive, isCall, holdsPair}
+use Rattle.first.specs.declared.Found.{Found}
+use Rattle.first.specs.declared.Found.the-variants.{Nothing, At}
+use Rattle.first.specs.First.{place}
+use Rattle.first.proofs.First.{unplaced}
+use Rattle.slots.specs.Slots.{unusedReference}
+use Rattle.slots.specs.Timers.{nextDue}
+use Rattle.slots.proofs.Unused.{unused-found, unused-is-unused}
 use Rattle.header.specs.declared.Header.{Header}
 use Rattle.header.specs.declared.Head.{Head}
 use Rattle.header.specs.declared.Head.the-variants.{Ignored, Is}

@@ -14,10 +14,10 @@ use native.Mathlib.Omega.{arith}
 use lib.ListN.{length, getD, set, replicate}
 use Rattle.channels.specs.Some.{someOf}
 use Rattle.channels.proofs.Cases.{by-test, clash}
-use Rattle.calls.specs.declared.Found.{Found}
-use Rattle.calls.specs.declared.Found.the-variants.{Nothing, At}
-use Rattle.calls.specs.First.{place}
-use Rattle.calls.proofs.First.{unplaced}
+use Rattle.first.specs.declared.Found.{Found}
+use Rattle.first.specs.declared.Found.the-variants.{Nothing, At}
+use Rattle.first.specs.First.{place}
+use Rattle.first.proofs.First.{unplaced}
 
 module _ {A : Type 0} (q : A → Bool) (d : A) where
   pub some-found : (xs : List A) → someOf q xs ≡ true → (i : ℕ) × ((i < length xs) × (q (getD xs i d) ≡ true))

@@ -16,12 +16,12 @@ use Rattle.channels.specs.declared.Channel.{Channel}
 use Rattle.channels.specs.declared.Channel.the-variants.{None, Pair}
 use Rattle.channels.proofs.Cases.{by-test, clash, both}
 use Rattle.channels.proofs.Some.{some-at}
-use Rattle.calls.specs.declared.Found.{Found}
-use Rattle.calls.specs.declared.Found.the-variants.{Nothing, At}
-use Rattle.calls.specs.First.{place}
 use Rattle.calls.specs.Calls.{noSlot, isEmpty, isCall}
-use Rattle.calls.specs.Timers.{nextDue}
-use Rattle.calls.proofs.First.{placed}
+use Rattle.first.specs.declared.Found.{Found}
+use Rattle.first.specs.declared.Found.the-variants.{Nothing, At}
+use Rattle.first.specs.First.{place}
+use Rattle.first.proofs.First.{placed}
+use Rattle.slots.specs.Timers.{nextDue}
 use Rattle.header.specs.declared.Header.{Header}
 use Rattle.header.specs.declared.Head.{Head}
 use Rattle.header.specs.declared.Head.the-variants.{Ignored, Is}

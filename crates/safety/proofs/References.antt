@@ -15,8 +15,9 @@ use Rattle.channels.proofs.Cases.{by-test}
 use Rattle.calls.specs.declared.Call.{Call}
 use Rattle.calls.specs.declared.Hold.the-variants.{Live}
 use Rattle.calls.specs.declared.Slot.{Slot}
-use Rattle.calls.specs.Calls.{noSlot, unusedReference}
-use Rattle.calls.proofs.Unused.{unused-found}
+use Rattle.calls.specs.Calls.{noSlot}
+use Rattle.slots.specs.Slots.{unusedReference}
+use Rattle.slots.proofs.Unused.{unused-found}
 use Rattle.effects.specs.Effect.{slotCount}
 use Rattle.table.specs.declared.Table.{Table}
 use Rattle.control.specs.Happens.{Event, message, tick, connect, clear, offer, happens, after}

@@ -24,12 +24,14 @@ use Rattle.calls.specs.declared.Call.{Call}
 use Rattle.calls.specs.declared.Hold.{Hold}
 use Rattle.calls.specs.declared.Hold.the-variants.{Empty, Live}
 use Rattle.calls.specs.declared.Slot.{Slot}
-use Rattle.calls.specs.declared.Found.{Found}
-use Rattle.calls.specs.declared.Found.the-variants.{Nothing, At}
-use Rattle.calls.specs.First.{place}
-use Rattle.calls.specs.Calls.{moved, noSlot, isCall, heldOf}
-use Rattle.calls.proofs.First.{unplaced}
-use Rattle.calls.proofs.Calls.{held-holds, call-named-once}
+use Rattle.calls.specs.Calls.{moved, noSlot, isCall}
+use Rattle.calls.proofs.Calls.{call-named-once}
+use Rattle.first.specs.declared.Found.{Found}
+use Rattle.first.specs.declared.Found.the-variants.{Nothing, At}
+use Rattle.first.specs.First.{place}
+use Rattle.first.proofs.First.{unplaced}
+use Rattle.slots.specs.Slots.{heldOf}
+use Rattle.slots.proofs.Held.{held-holds}
 use Rattle.header.specs.declared.Header.{Header}
 use Rattle.header.specs.declared.Head.{Head}
 use Rattle.header.specs.declared.Head.the-variants.{Ignored, Is}

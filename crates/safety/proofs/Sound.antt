@@ -23,8 +23,9 @@ use Rattle.provisioning.specs.Provisioning.{provision}
 use Rattle.provisioning.proofs.Accepted.{provision-pair}
 use Rattle.calls.specs.declared.Call.{Call}
 use Rattle.calls.specs.declared.Slot.{Slot}
-use Rattle.calls.specs.Calls.{noSlot, isCall, heldOf}
-use Rattle.calls.proofs.Calls.{held-holds}
+use Rattle.calls.specs.Calls.{noSlot, isCall}
+use Rattle.slots.specs.Slots.{heldOf}
+use Rattle.slots.proofs.Held.{held-holds}
 use Rattle.effects.specs.Effect.{slotCount}
 use Rattle.table.specs.declared.Table.{Table}
 use Rattle.outcome.specs.Outcome.{Outcome}

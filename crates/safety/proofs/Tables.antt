@@ -23,11 +23,13 @@ use Rattle.channels.proofs.Lowest as lowest
 use Rattle.calls.specs.declared.Call.{Call}
 use Rattle.calls.specs.declared.Hold.{Hold}
 use Rattle.calls.specs.declared.Hold.the-variants.{Empty, Live}
-use Rattle.calls.specs.declared.Found.the-variants.{Nothing}
-use Rattle.calls.specs.First.{place}
-use Rattle.calls.specs.Calls.{noSlot, isEmpty, emptyHold, onPair, holdsPair, heldOf, named, isCall}
-use Rattle.calls.proofs.First.{unplaced, some-nothing}
-use Rattle.calls.proofs.Calls.{held-holds, call-named}
+use Rattle.calls.specs.Calls.{noSlot, isEmpty, emptyHold, onPair, holdsPair, named, isCall}
+use Rattle.calls.proofs.Calls.{call-named}
+use Rattle.first.specs.declared.Found.the-variants.{Nothing}
+use Rattle.first.specs.First.{place}
+use Rattle.first.proofs.First.{unplaced, some-nothing}
+use Rattle.slots.specs.Slots.{heldOf}
+use Rattle.slots.proofs.Held.{held-holds}
 use Rattle.table.specs.declared.Table.{Table}
 use Rattle.table.specs.Effects.{freePair}
 use Rattle.safety.specs.Tables.{HasSlots, slotAt, HasCall, NoneEmpty, OnPair, Holds, InDoubt, NoneFree}

@@ -14,8 +14,8 @@ use mathlib.Core.Bool.{Bool, true, false}
 use lib.ListN.{length, getD}
 use Rattle.calls.specs.declared.Phase.the-variants.{N10}
 use Rattle.calls.specs.declared.Call.{Call}
-use Rattle.calls.specs.declared.Flags.{Flags}
 use Rattle.calls.specs.Calls.{moved, noSlot}
+use Rattle.slots.specs.declared.Flags.{Flags}
 use Rattle.effects.specs.Effect.{slotCount}
 use Rattle.table.specs.declared.Table.{Table}
 use Rattle.control.specs.Happens.{Event, message, tick, connect, clear, offer, happens}

@@ -3,9 +3,9 @@
 //   put_form     the form at a place of a room
 //   save         the form at the front of a room
 // `put_form` asks for room; nothing else public has a `requires`. Assumes nothing.
-use calls::Slots;
 use channels::Doubts;
 use channels::Pool;
+use slots::Slots;
 use table::Table;
 ghost use mathlib.Core.Path.{_≡_};
 ghost use Prim.Native.Nat.{_+_, _≤_};

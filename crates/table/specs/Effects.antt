@@ -21,11 +21,11 @@ use Rattle.calls.specs.declared.Phase.the-variants.{N3}
 use Rattle.calls.specs.declared.Call.{Call}
 use Rattle.calls.specs.declared.Hold.{Hold}
 use Rattle.calls.specs.declared.Hold.the-variants.{Empty, Live}
-use Rattle.calls.specs.declared.Found.{Found}
-use Rattle.calls.specs.declared.Found.the-variants.{Nothing, At}
-use Rattle.calls.specs.First.{place}
 use Rattle.calls.specs.Calls.{noSlot, isEmpty, isCall, entryOf}
-use Rattle.calls.specs.Timers.{nextDue}
+use Rattle.first.specs.declared.Found.{Found}
+use Rattle.first.specs.declared.Found.the-variants.{Nothing, At}
+use Rattle.first.specs.First.{place}
+use Rattle.slots.specs.Timers.{nextDue}
 use Rattle.header.specs.declared.Header.{Header}
 use Rattle.elements.specs.Values.{connectionIn, restartIn}
 use Rattle.replies.specs.declared.Reply.the-variants as reply

@@ -5,10 +5,8 @@
 //   Table::fire              the timer that a tick fires
 // `heard` and `fire` ask for a reading that is not refused. Assumes nothing.
 use calls::Call;
-use calls::Found;
 use calls::Hold;
 use calls::Phase;
-use calls::Slots;
 use channels::Channel;
 use channels::Doubts;
 use channels::Pool;
@@ -19,16 +17,18 @@ use effects::doubting;
 use effects::on_slot;
 use effects::quiet;
 use effects::replying;
+use first::Found;
 use header::Header;
 use replies::Cause;
 use replies::Reply;
 use setup::Admission;
+use slots::Slots;
 ghost use mathlib.Core.Path.{_≡_};
 ghost use mathlib.Core.Bool.{true, _&&_, not};
 ghost use Prim.Native.Nat.{_≤_, _<_};
 ghost use lib.Dec.{eqb};
-ghost use Rattle.calls.specs.First.{place};
 ghost use Rattle.calls.specs.Calls.{isEmpty};
+ghost use Rattle.first.specs.First.{place};
 ghost use Rattle.setup.specs.Setup.{admission};
 ghost use Rattle.effects.specs.Effect.{replying};
 ghost use Rattle.table.specs.Effects.{freePair, onPair, admitted, setupEffect, onNoCall, addressed, globalEffect, messageEffect, fired, tickEffect};

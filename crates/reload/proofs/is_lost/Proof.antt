@@ -4,7 +4,7 @@ use mathlib.Core.Path.{sym, ap, _∙_}
 use borrow.Author.Tests.{not-true, not-false}
 use Rattle.channels.specs.declared.Held.{Held}
 use Rattle.channels.specs.Channels.{among}
-use Rattle.calls.proofs.Calls.{held-holds}
+use Rattle.slots.proofs.Held.{held-holds}
 use borrow.Author.Needs.{needs}
 use Rattle.reload.proofs.is_lost.Statement.{statement}
 use Rattle.reload.proofs.is_lost.Tie as tie

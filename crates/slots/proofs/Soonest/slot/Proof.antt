@@ -1,0 +1,20 @@
+-- `Soonest::slot` meets its contract: by its cases.
+-- Assumes nothing.
+use borrow.Author.Needs.{needs}
+use Rattle.slots.proofs.Soonest.slot.Statement.{statement}
+use Rattle.slots.proofs.Soonest.slot.Tie as tie
+
+enum-told : tie.Need-enum-told
+enum-told c = search needs
+
+enum-known-self : tie.Need-enum-known-self
+enum-known-self c = search needs
+
+returns : tie.Need-returns
+returns c = search needs
+
+returns-2 : tie.Need-returns-2
+returns-2 c = rw (c .before .self .given .1)
+
+pub slot-spec : {M : Type 1} → statement M
+slot-spec = tie.close (tie.spec enum-told enum-known-self returns returns-2)

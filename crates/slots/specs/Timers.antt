@@ -1,0 +1,41 @@
+-- Timers of slots: if one is due, and which one a tick fires.
+--   someDue                   if some slot is due at a reading
+--   earlier, considered       the soonest timer after one more deadline
+--   soonestFrom, nextDue      of a list of slots
+-- Lists of slots are of any length. Assumes nothing.
+use Prim.Native.Nat.{ℕ, _+_}
+use mathlib.Core.Bool.{Bool, cond}
+use mathlib.Core.List.{List, [], _∷_}
+use lib.Dec.{ltb}
+use Rattle.channels.specs.Some.{someOf}
+use Rattle.calls.specs.declared.Slot.{Slot}
+use Rattle.calls.specs.declared.Due.{Due}
+use Rattle.calls.specs.declared.Due.the-variants.{Never, At as DueAt}
+use Rattle.calls.specs.Timers.{deadlineOf, dueBy, isDue}
+use Rattle.first.specs.declared.Found.{Found}
+use Rattle.first.specs.declared.Found.the-variants.{Nothing as NoPlace, At as PlaceAt}
+use Rattle.slots.specs.declared.Soonest.{Soonest}
+use Rattle.slots.specs.declared.Soonest.the-variants.{Nothing, Timer}
+
+abbrev pub someDue : ℕ → List Slot → Bool
+someDue now ss = someOf (isDue now) ss
+
+-- "Smallest deadline first, then lowest slot": the slots come in order, so a later one needs a smaller deadline
+abbrev pub earlier : Soonest → ℕ → ℕ → Soonest
+earlier Nothing n d = Timer n d
+earlier (Timer m e) n d = cond (ltb d e) (Timer n d) (Timer m e)
+
+abbrev pub considered : ℕ → Soonest → ℕ → Due → Soonest
+considered now b n Never = b
+considered now b n (DueAt d) = cond (dueBy now (DueAt d)) (earlier b n d) b
+
+abbrev pub soonestFrom : ℕ → Soonest → ℕ → List Slot → Soonest
+soonestFrom now b n [] = b
+soonestFrom now b n (s ∷ ss) = soonestFrom now (considered now b n (deadlineOf s)) (n + 1) ss
+
+abbrev pub placeOf : Soonest → Found
+placeOf Nothing = NoPlace
+placeOf (Timer n d) = PlaceAt n
+
+abbrev pub nextDue : ℕ → List Slot → Found
+nextDue now ss = placeOf (soonestFrom now Nothing 0 ss)
