@@ -8,15 +8,20 @@
 use Prim.Native.Nat.{ℕ, _+_, _%_}
 use mathlib.Core.Bool.{Bool, true, false, cond}
 use mathlib.Core.List.{List, [], _∷_, _++_}
-use lib.ListN.{length}
+use lib.ListN.{length, take}
 use Rattle.octets.specs.Octets.{high, low}
 use Rattle.replies.specs.Message.{Element, Message, elementOctets, header, message, octets}
+use Rattle.replies.specs.declared.Field.{Field}
 use Rattle.replies.specs.declared.Mandatory.{Mandatory}
 use Rattle.replies.specs.declared.Diagnostic.{Diagnostic}
 use Rattle.replies.specs.declared.Diagnostic.the-variants as diagnostic
 use Rattle.replies.specs.declared.Cause.{Cause}
 use Rattle.replies.specs.declared.Reply.{Reply}
 use Rattle.replies.specs.declared.Reply.the-variants as reply
+
+-- the octets of a field that a writer made
+abbrev pub inField : Field → List ℕ
+inField f = take (f .size) (f .octets)
 
 -- an octet that is there or not
 abbrev pub optional : Bool → ℕ → List ℕ

@@ -5,12 +5,12 @@
 // Both ask for a room of 1,024 octets; octets behind the message are unchanged. Assumes nothing.
 ghost use mathlib.Core.Path.{_≡_};
 ghost use mathlib.Core.Bool.{false, cond};
-ghost use Prim.Native.Nat.{_+_, _≤_};
-ghost use mathlib.Core.List.{_∷_, []};
+ghost use Prim.Native.Nat.{_+_, _≤_, _<_};
+ghost use mathlib.Core.List.{_∷_, [], _++_};
 ghost use lib.ListN.{length};
-ghost use Rattle.octets.specs.Octets.{Wrote, Fills, front};
+ghost use Rattle.octets.specs.Octets.{high, low, Wrote, Fills, front};
 ghost use Rattle.replies.specs.Message.{header, elementOctets, message, octets};
-ghost use Rattle.replies.specs.Reply.{optional, identifiers, diagnosticOctets, cause, callState, connection, restart, replyOctets, setupOctets};
+ghost use Rattle.replies.specs.Reply.{inField, optional, identifiers, diagnosticOctets, cause, callState, connection, restart, replyOctets, setupOctets};
 
 // Some of the four elements that SETUP must have: 59, 5C, 5E and 70.
 pub struct Mandatory {
@@ -54,79 +54,79 @@ pub enum Reply {
     RestartAcknowledge(u16, u16),
 }
 
-// One octet, if it is there.
-fn put_optional(room: &mut [u8], at: usize, there: bool, octet: u8) -> usize
-    requires { ⌜ at + 1 ≤ length (now room) ⌝ }
-    ensures { λ r. ⌜ Wrote (now (room .entry)) at (optional there octet) (now (room .exit)) r ⌝ }
-    ensures { λ r. ⌜ r ≤ at + 1 ⌝ }
+// The octets of a diagnostic field, at most four, at the front of an array.
+struct Field {
+    octets: [u8; 4],
+    size: usize,
+}
+
+// One octet more, if it is there.
+fn field_with(field: Field, there: bool, octet: u8) -> Field
+    requires { ⌜ field .size < 4 ⌝ }
+    ensures { λ r. ⌜ inField r ≡ inField field ++ optional there octet ⌝ }
+    ensures { λ r. ⌜ r .size ≤ field .size + 1 ⌝ }
 {
-    let one = [octet];
-    if there {
-        return octets::put(room, at, &one);
+    if !there {
+        return field;
     }
-    octets::put(room, at, &one[..0])
+    let at = field.size;
+    let mut octets = field.octets;
+    octets[at] = octet;
+    Field {
+        octets: octets,
+        size: at + 1,
+    }
 }
 
 // The identifiers of the elements that are named, ascending.
-fn put_identifiers(room: &mut [u8], at: usize, named: Mandatory) -> usize
-    requires { ⌜ at + 4 ≤ length (now room) ⌝ }
-    ensures { λ r. ⌜ Wrote (now (room .entry)) at (identifiers named) (now (room .exit)) r ⌝ }
+fn identifier_field(named: Mandatory) -> Field
+    ensures { λ r. ⌜ inField r ≡ identifiers named ⌝ }
+    ensures { λ r. ⌜ r .size ≤ 4 ⌝ }
 {
-    let second = put_optional(room, at, named.traffic, 0x59);
-    let third = put_optional(room, second, named.qos, 0x5C);
-    let fourth = put_optional(room, third, named.bearer, 0x5E);
-    put_optional(room, fourth, named.called, 0x70)
+    let none = Field {
+        octets: [0; 4],
+        size: 0,
+    };
+    let first = field_with(none, named.traffic, 0x59);
+    let second = field_with(first, named.qos, 0x5C);
+    let third = field_with(second, named.bearer, 0x5E);
+    field_with(third, named.called, 0x70)
 }
 
-fn put_diagnostic(room: &mut [u8], at: usize, diagnostic: Diagnostic) -> usize
-    requires { ⌜ at + 4 ≤ length (now room) ⌝ }
-    ensures { λ r. ⌜ Wrote (now (room .entry)) at (diagnosticOctets diagnostic) (now (room .exit)) r ⌝ }
+fn pair_field(vpci: u16, vci: u16) -> Field
+    ensures { λ r. ⌜ inField r ≡ high vpci ∷ low vpci ∷ high vci ∷ low vci ∷ [] ⌝ }
+    ensures { λ r. ⌜ r .size ≤ 4 ⌝ }
 {
-    match diagnostic {
-        Diagnostic::None => octets::put(room, at, &[]),
-        Diagnostic::Octet(octet) => octets::put(room, at, &[octet]),
-        Diagnostic::Elements(named) => put_identifiers(room, at, named),
-        Diagnostic::Pair(vpci, vci) => octets::put(
-            room,
-            at,
-            &[
-                (vpci / 256 % 256) as u8,
-                (vpci % 256) as u8,
-                (vci / 256 % 256) as u8,
-                (vci % 256) as u8,
-            ],
-        ),
-        Diagnostic::Timer => octets::put(room, at, &[0x33, 0x31, 0x30]),
+    let p = (vpci / 256 % 256) as u8;
+    let q = (vpci % 256) as u8;
+    let v = (vci / 256 % 256) as u8;
+    let w = (vci % 256) as u8;
+    Field {
+        octets: [p, q, v, w],
+        size: 4,
     }
 }
 
-// How many octets a diagnostic has.
-fn diagnostic_size(diagnostic: Diagnostic) -> usize
-    ensures { λ r. ⌜ r ≡ length (diagnosticOctets diagnostic) ⌝ }
-    ensures { λ r. ⌜ r ≤ 4 ⌝ }
+fn diagnostic_field(diagnostic: Diagnostic) -> Field
+    ensures { λ r. ⌜ inField r ≡ diagnosticOctets diagnostic ⌝ }
+    ensures { λ r. ⌜ r .size ≤ 4 ⌝ }
 {
     match diagnostic {
-        Diagnostic::None => 0,
-        Diagnostic::Octet(_) => 1,
-        Diagnostic::Elements(named) => count(named),
-        Diagnostic::Pair(_, _) => 4,
-        Diagnostic::Timer => 3,
+        Diagnostic::None => Field {
+            octets: [0; 4],
+            size: 0,
+        },
+        Diagnostic::Octet(octet) => Field {
+            octets: [octet, 0, 0, 0],
+            size: 1,
+        },
+        Diagnostic::Elements(named) => identifier_field(named),
+        Diagnostic::Pair(vpci, vci) => pair_field(vpci, vci),
+        Diagnostic::Timer => Field {
+            octets: [0x33, 0x31, 0x30, 0],
+            size: 3,
+        },
     }
-}
-
-// How many elements are named.
-fn count(named: Mandatory) -> usize
-    ensures { λ r. ⌜ r ≡ length (identifiers named) ⌝ }
-    ensures { λ r. ⌜ r ≤ 4 ⌝ }
-{
-    one(named.traffic) + one(named.qos) + one(named.bearer) + one(named.called)
-}
-
-fn one(there: bool) -> usize
-    ensures { λ r. ⌜ r ≡ length (optional there 0) ⌝ }
-    ensures { λ r. ⌜ r ≤ 1 ⌝ }
-{
-    if there { 1 } else { 0 }
 }
 
 fn put_header(room: &mut [u8], flag: bool, reference: u32, kind: u8, size: usize) -> usize
@@ -158,12 +158,13 @@ fn put_cause(room: &mut [u8], at: usize, why: Cause) -> usize
     ensures { λ r. ⌜ Wrote (now (room .entry)) at (elementOctets (cause why)) (now (room .exit)) r ⌝ }
 {
     let diagnostic = why.diagnostic;
-    let size = 2 + diagnostic_size(diagnostic);
-    let high = (size / 256 % 256) as u8;
-    let low = (size % 256) as u8;
+    let field = diagnostic_field(diagnostic);
+    let size = field.size;
+    let low = (2 + size) as u8;
     let number = why.number % 128 + 0x80;
-    let next = octets::put(room, at, &[0x08, 0x80, high, low, 0x81, number]);
-    put_diagnostic(room, next, diagnostic)
+    let next = octets::put(room, at, &[0x08, 0x80, 0, low, 0x81, number]);
+    let octets = field.octets;
+    octets::put(room, next, &octets[..size])
 }
 
 fn put_call_state(room: &mut [u8], at: usize, state: u8) -> usize
@@ -221,7 +222,8 @@ fn write_cause(room: &mut [u8], flag: bool, reference: u32, kind: u8, why: Cause
     ensures { λ r. ⌜ Fills (now (room .entry)) (octets (message flag reference kind (cause why ∷ []))) (now (room .exit)) r ⌝ }
 {
     let diagnostic = why.diagnostic;
-    let size = 6 + diagnostic_size(diagnostic);
+    let field = diagnostic_field(diagnostic);
+    let size = 6 + field.size;
     let at = put_header(room, flag, reference, kind, size);
     put_cause(room, at, why)
 }
@@ -231,7 +233,8 @@ fn write_status(room: &mut [u8], flag: bool, reference: u32, state: u8, why: Cau
     ensures { λ r. ⌜ Fills (now (room .entry)) (octets (message flag reference 0x7D (callState state ∷ cause why ∷ []))) (now (room .exit)) r ⌝ }
 {
     let diagnostic = why.diagnostic;
-    let size = 11 + diagnostic_size(diagnostic);
+    let field = diagnostic_field(diagnostic);
+    let size = 11 + field.size;
     let first = put_header(room, flag, reference, 0x7D, size);
     let second = put_call_state(room, first, state);
     put_cause(room, second, why)

@@ -1,5 +1,5 @@
 pub mod Crowd
-pub mod Marking
-pub mod Pass
+pub mod Near
+pub mod Numbers
 pub mod Walked
 pub mod Once

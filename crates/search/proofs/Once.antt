@@ -14,8 +14,9 @@ use Rattle.channels.specs.declared.Channel.the-variants.{None, Pair}
 use Rattle.channels.specs.declared.Entry.{Entry}
 use Rattle.channels.specs.declared.Range.{Range}
 use Rattle.channels.proofs.Cases.{by-test}
-use Rattle.search.specs.Search.{pairsOf, noMarks, spans, spanning, beyond, readsIn, AtMostOnce}
-use Rattle.search.proofs.Marking.{marking-count}
+use Rattle.marks.specs.Marking.{pairsOf, noMarks}
+use Rattle.marks.proofs.Marking.{marking-count}
+use Rattle.search.specs.Search.{spans, spanning, beyond, readsIn, AtMostOnce}
 
 beyond-most : (c : Channel) (n : ℕ) → beyond c n ≤ n
 beyond-most None n = omega arith

@@ -24,7 +24,8 @@ use Rattle.channels.specs.declared.Range.{Range}
 use Rattle.channels.proofs.Cases.{by-test}
 use Rattle.channels.proofs.Lowest.{none-scan}
 use Rattle.channels.proofs.Walk.{zeroRange, lowest-here, lowest-end}
-use Rattle.search.specs.Search.{marksOf, beyond, readsIn}
+use Rattle.marks.specs.Marking.{marksOf}
+use Rattle.search.specs.Search.{beyond, readsIn}
 
 module _ (t : ℕ → ℕ → Bool) (q : ℕ) (rest : Channel) where
   scan-first : (n w v : ℕ) → w ≤ v → v < w + n → ((u : ℕ) → w ≤ u → u < v → t q u ≡ true) → t q v ≡ false → scan t q n w rest ≡ Pair q v

@@ -1,23 +1,19 @@
--- `replies::put_cause` meets its contract: six octets and then the diagnostic, whose size the length field counts.
+-- `replies::put_cause` meets its contract: six octets and then the diagnostic field, whose size the length field counts.
 -- Assumes nothing.
 use borrow.Author.Needs.{needs}
 use native.Mathlib.Omega.{arith}
-use Prim.Native.Nat.{suc, _+_}
-use mathlib.Core.Path.{_≡_}
+use mathlib.Core.Path.{_≡_, sym}
 use lib.ListN.{length}
 use Rattle.octets.proofs.Stores.{chain}
-use Rattle.replies.specs.Reply.{diagnosticOctets}
+use Rattle.replies.proofs.Sizes.{field-size, cause-octets}
 use Rattle.replies.proofs.put_cause.Statement.{statement}
 use Rattle.replies.proofs.put_cause.Tie as tie
 
-diagnostic-size-requires : tie.Need-diagnostic-size-requires
-diagnostic-size-requires c κs = search needs
+diagnostic-field-requires : tie.Need-diagnostic-field-requires
+diagnostic-field-requires c κs = tt
 
-add-size : tie.Need-add-size
-add-size c = search needs
-
-cast-high : tie.Need-cast-high
-cast-high c = search needs
+add-low : tie.Need-add-low
+add-low c = search needs
 
 cast-low : tie.Need-cast-low
 cast-low c = search needs
@@ -31,30 +27,47 @@ slice-aggregate-put c = search needs
 put-requires : tie.Need-put-requires
 put-requires c κs = search needs
 
-put-diagnostic-requires : tie.Need-put-diagnostic-requires
-put-diagnostic-requires c κs = search needs
+array-share-prefix-octets : tie.Need-array-share-prefix-octets
+array-share-prefix-octets c =
+    let f = c .before .before .before .before .before .before .before .before .diagnostic-field in
+    let long : length (f .result .octets) ≡ 4 = search needs in
+    let few = f .ensures .1 in
+    omega arith
+
+slice-aggregate-put-2 : tie.Need-slice-aggregate-put-2
+slice-aggregate-put-2 c =
+    let f = c .before .before .before .before .before .before .before .before .before .diagnostic-field in
+    sym (field-size (f .result) (search needs) (f .ensures .1))
+
+put-requires-2 : tie.Need-put-requires-2
+put-requires-2 c κs =
+    let f = c .before .before .before .before .before .before .before .before .before .diagnostic-field in
+    let size = field-size (f .result) (search needs) (f .ensures .1) in
+    let few = f .ensures .1 in
+    omega arith
 
 same-length : tie.Need-same-length
 same-length c = search needs
 
 returns : tie.Need-returns
 returns c = let d = c .before .before in
-    let p = d .before .before .before .before in
-    let s = p .before .before .before .before in
-    let size : suc (suc (length (diagnosticOctets (s .before .before .args .why .diagnostic)))) ≡ 2 + s .diagnostic-size .result = omega arith in
-    rw size (chain (p .put .ensures .1) (d .put-diagnostic .ensures))
+    let p = d .before .before .before .before .before .before in
+    let f = p .before .before .before .before in
+    rw (cause-octets (f .before .before .args .why) (f .diagnostic-field .result) (search needs) (f .diagnostic-field .ensures .1) (f .diagnostic-field .ensures .0))
+    (chain (p .put .ensures .1) (d .put2 .ensures .1))
 
 pub put-cause-spec : {M : Type 1} → statement M
 put-cause-spec =
     tie.close
     (tie.spec
-    diagnostic-size-requires
-    add-size
-    cast-high
+    diagnostic-field-requires
+    add-low
     cast-low
     add-number
     slice-aggregate-put
     put-requires
-    put-diagnostic-requires
+    array-share-prefix-octets
+    slice-aggregate-put-2
+    put-requires-2
     same-length
     returns)

@@ -4,17 +4,18 @@ use borrow.Author.Needs.{needs}
 use native.Mathlib.Omega.{arith}
 use mathlib.Core.List.{[], _∷_}
 use Prim.Native.Nat.{_+_}
-use mathlib.Core.Path.{_≡_}
+use mathlib.Core.Path.{_≡_, sym, ap, _∙_}
 use lib.ListN.{length}
 use Rattle.octets.proofs.Stores.{chain, wrote-none}
+use Rattle.replies.proofs.Sizes.{field-size}
 use Rattle.replies.proofs.Whole.{body-size, whole}
 use Rattle.replies.specs.Message.{body}
 use Rattle.replies.specs.Reply.{cause}
 use Rattle.replies.proofs.write_cause.Statement.{statement}
 use Rattle.replies.proofs.write_cause.Tie as tie
 
-diagnostic-size-requires : tie.Need-diagnostic-size-requires
-diagnostic-size-requires c κs = search needs
+diagnostic-field-requires : tie.Need-diagnostic-field-requires
+diagnostic-field-requires c κs = tt
 
 add-size : tie.Need-add-size
 add-size c = search needs
@@ -31,18 +32,20 @@ same-length c = search needs
 returns : tie.Need-returns
 returns c = let e = c .before .before in
     let h = e .before .before .before .before in
-    let d = h .before .before in
+    let d = h .before .before .before in
+    let f = d .diagnostic-field .result in
     let a = d .before .before .args in
+    let many = sym (ap length (d .diagnostic-field .ensures .0)) ∙ field-size f (search needs) (d .diagnostic-field .ensures .1) in
     let es = cause (a .why) ∷ [] in
-    let size : length (body es) ≡ 6 + d .diagnostic-size .result = rw (body-size (cause (a .why)) []) (omega arith) in
-    whole (a .flag) (a .reference) (a .kind) (6 + d .diagnostic-size .result) es size (omega arith)
+    let size : length (body es) ≡ 6 + f .size = rw (body-size (cause (a .why)) []) (omega arith) in
+    whole (a .flag) (a .reference) (a .kind) (6 + f .size) es size (omega arith)
     (chain (h .put-header .ensures) (chain (e .put-cause .ensures) (wrote-none _ _)))
 
 pub write-cause-spec : {M : Type 1} → statement M
 write-cause-spec =
     tie.close
     (tie.spec
-    diagnostic-size-requires
+    diagnostic-field-requires
     add-size
     put-header-requires
     put-cause-requires

@@ -7,9 +7,9 @@ use mathlib.Core.Logic.{⊎-elim}
 use mathlib.Core.Bool.{true}
 use lib.ListN.{length, set, length-set}
 use lib.Seq.{set-out}
-use Rattle.search.specs.Search.{offsetIn}
-use Rattle.search.proofs.mark_one.Statement.{statement}
-use Rattle.search.proofs.mark_one.Tie as tie
+use Rattle.marks.specs.Marking.{offsetIn}
+use Rattle.marks.proofs.mark_one.Statement.{statement}
+use Rattle.marks.proofs.mark_one.Tie as tie
 
 offset-in-requires : tie.Need-offset-in-requires
 offset-in-requires c κs = search needs

@@ -4,11 +4,11 @@ use borrow.Author.Needs.{needs}
 use native.Mathlib.Omega.{arith}
 use mathlib.Core.Path.{_≡_, ap, _∙_}
 use lib.ListN.{length, length-map}
-use Rattle.search.specs.Search.{noMarks}
-use Rattle.search.specs.declared.Marks.{Marks}
-use Rattle.search.proofs.Marking.{marking-count, marking-pairs}
-use Rattle.search.proofs.read_marks.Statement.{statement}
-use Rattle.search.proofs.read_marks.Tie as tie
+use Rattle.marks.specs.Marking.{noMarks}
+use Rattle.marks.specs.declared.Marks.{Marks}
+use Rattle.marks.proofs.Marking.{marking-count, marking-pairs}
+use Rattle.marks.proofs.read_marks.Statement.{statement}
+use Rattle.marks.proofs.read_marks.Tie as tie
 
 mark-held-requires : tie.Need-mark-held-requires
 mark-held-requires c κs = search needs

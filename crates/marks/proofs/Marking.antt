@@ -5,10 +5,8 @@
 --   mark-of                 a mark is set exactly if the pair of its VCI is among those read
 --   marking-count           a pass counts the pairs of its list
 --   marking-pairs           the three passes one after the other
---   near-most               the last VCI with a mark is no further than the marks and the range go
 --   marks-count             each pair was read once
 --   mark-taken              a mark is set exactly if the pair of its VCI is taken
---   near-passed             a range whose marks are all set has no free pair
 -- Over lists of any length. Assumes nothing.
 use Prim.Native.Nat.{ℕ, _+_, _-_, _≤_, _<_}
 use mathlib.Core.Path.{_≡_, refl, sym, ap, _∙_}
@@ -26,9 +24,8 @@ use Rattle.channels.specs.declared.Channel.the-variants.{None, Pair}
 use Rattle.channels.specs.declared.Entry.{Entry}
 use Rattle.channels.specs.declared.Range.{Range}
 use Rattle.channels.proofs.Cases.{by-test}
-use Rattle.search.specs.Search.{pairsOf, near, offsetOf, offsetIn, markOne, marking, noMarks, marksOf, nearLast}
-use Rattle.search.specs.declared.Marks.{Marks}
-use Rattle.search.proofs.Crowd.{crowd}
+use Rattle.marks.specs.Marking.{pairsOf, near, offsetOf, offsetIn, markOne, marking, noMarks, marksOf}
+use Rattle.marks.specs.declared.Marks.{Marks}
 
 some-append : {A : Type 0} (p : A → Bool) (xs ys : List A) → someOf p (xs ++ ys) ≡ (someOf p xs || someOf p ys)
 some-append p [] ys = refl
@@ -86,33 +83,14 @@ module _ (r : Range) where
   marking-pairs held doubts permanents first second third e f g =
       g ∙ rw (f, e) (sym (marking-append held (doubts ++ permanents) noMarks ∙ marking-append doubts permanents (marking r held noMarks)))
 
-  pub near-most : (nearLast r ≤ r .first + 104) × (nearLast r ≤ r .last)
-  near-most =
-      by-test (ltb (r .first + 104) (r .last))
-      (λ e. let h = ltb-true (r .first + 104) (r .last) e in rw e (omega arith, omega arith))
-      (λ e. let h = ltb-false (r .first + 104) (r .last) e in rw e (omega arith, omega arith))
-
 module _ (held doubts permanents : List Entry) (r : Range) where
   pub marks-count : (m : Marks) → m ≡ marksOf r (pairsOf held doubts permanents) → m .reads ≡ length (pairsOf held doubts permanents)
   marks-count m e = ap (λ (n : Marks). n .reads) e ∙ marking-count r (pairsOf held doubts permanents) noMarks ∙ omega arith
 
-  pub mark-taken : (m : Marks) → m ≡ marksOf r (pairsOf held doubts permanents) → (v : ℕ) → r .first ≤ v → v ≤ nearLast r
+  pub mark-taken : (m : Marks) → m ≡ marksOf r (pairsOf held doubts permanents) → (v : ℕ) → r .first ≤ v → v < r .first + near
       → getD (m .on) (v - r .first) false ≡ taken held doubts permanents (r .vpci) v
   mark-taken m e v low high =
-      let most = near-most r .0 in
       let place : r .first + (v - r .first) ≡ v = omega arith in
       ap (λ (n : Marks). getD (n .on) (v - r .first) false) e
       ∙ mark-of r (pairsOf held doubts permanents) noMarks (v - r .first) (length-replicate near false) (omega arith)
       ∙ rw (getD-replicate near (v - r .first) false false (omega arith), place) (pairs-taken held doubts permanents (r .vpci) v)
-
-  -- a range whose marks are all set has no free pair
-  pub near-passed : length (pairsOf held doubts permanents) < near
-      → ((w : ℕ) → r .first ≤ w → w ≤ nearLast r → taken held doubts permanents (r .vpci) w ≡ true)
-      → (w : ℕ) → r .first ≤ w → w < r .first + ((r .last + 1) - r .first) → taken held doubts permanents (r .vpci) w ≡ true
-  near-passed few all w low high =
-      by-test (ltb (r .first + 104) (r .last))
-      (λ e.
-      let end : nearLast r ≡ r .first + 104 = rw e in
-      absurd (crowd (r .vpci) (pairsOf held doubts permanents) near (r .first) few
-      (λ u from to. pairs-taken held doubts permanents (r .vpci) u ∙ all u from (omega arith))))
-      (λ e. let end : nearLast r ≡ r .last = rw e in all w low (omega arith))

@@ -15,8 +15,8 @@ use lib.Seq.{drop-cons}
 use Rattle.channels.specs.Channels.{noEntry}
 use Rattle.channels.specs.declared.Entry.{Entry}
 use Rattle.channels.specs.declared.Range.{Range}
-use Rattle.search.specs.declared.Marks.{Marks}
-use Rattle.search.specs.Search.{near, offsetIn, markOne, marking}
+use Rattle.marks.specs.declared.Marks.{Marks}
+use Rattle.marks.specs.Marking.{near, offsetIn, markOne, marking}
 
 pub record Passed (r : Range) (es : List Entry) (n : ℕ) (start : Marks) (i : ℕ) (m : Marks) : Type 0 where
   pub long : length es ≡ n
