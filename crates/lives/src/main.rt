@@ -1,11 +1,12 @@
 // Standard lives of calls, for counting instructions. Four octets on standard input: 0 for a user-originated call
 // (SETUP, connect, CONNECT ACKNOWLEDGE, RELEASE), 1 for a network-originated one (offer, CALL PROCEEDING, CONNECT,
 // clear, RELEASE COMPLETE) or 2 for one that ends at once (SETUP, RELEASE COMPLETE); how many calls stand beside it;
-// hundreds of lives; which lists it starts with (`table_of`). Writes the lengths of all replies added up modulo
+// hundreds of lives; which lists it starts with (`lists_of`). Writes the lengths of all replies added up modulo
 // 1,000,000.
 use outcome::Answer;
+use outcome::Started;
 use table::Table;
-ghost use Prim.Native.Nat.{_<_};
+ghost use Prim.Native.Nat.{_≤_, _<_};
 
 // A SETUP on reference 0; its elements are an offer's body too.
 const SETUP: [u8; 45] = *b"\x09\x03\x00\x00\x00\x05\x80\x00\x24\
@@ -14,25 +15,97 @@ const SETUP: [u8; 45] = *b"\x09\x03\x00\x00\x00\x05\x80\x00\x24\
     \x5E\x80\x00\x02\x81\x80\
     \x70\x80\x00\x08\x91\x35\x35\x35\x31\x32\x33\x34";
 
+// A RELEASE on reference 200, with cause 16.
+const RELEASE: [u8; 15] = *b"\x09\x03\x00\x00\xC8\x4D\x80\x00\x06\x08\x80\x00\x02\x80\x90";
+
+// Which ranges a table starts with: VPCI 0, 1 .., each with the VCIs from 32 to `last`. How many numbers of ranges, and
+// of permanent pairs, count.
+struct Lists {
+    ranges: usize,
+    last: u16,
+    pairs: usize,
+}
+
+// 1, 2 and 4: 32 channels in so many ranges. 0: 2 channels in one range. 3: 16 channels in four ranges. 5: 36 channels in
+// four ranges, the last two of each permanent.
+fn lists_of(number: u8) -> Lists
+    ensures { λ r. ⌜ (r .ranges ≤ 12) × (r .pairs ≤ 16) ⌝ }
+{
+    match number {
+        0 => Lists {
+            ranges: 3,
+            last: 33,
+            pairs: 0,
+        },
+        1 => Lists {
+            ranges: 3,
+            last: 63,
+            pairs: 0,
+        },
+        2 => Lists {
+            ranges: 6,
+            last: 47,
+            pairs: 0,
+        },
+        3 => Lists {
+            ranges: 12,
+            last: 35,
+            pairs: 0,
+        },
+        5 => Lists {
+            ranges: 12,
+            last: 40,
+            pairs: 16,
+        },
+        _ => Lists {
+            ranges: 12,
+            last: 39,
+            pairs: 0,
+        },
+    }
+}
+
+fn started(lists: Lists) -> Started
+    requires { ⌜ (lists .ranges ≤ 12) × (lists .pairs ≤ 16) ⌝ }
+{
+    let r = lists.ranges;
+    let p = lists.pairs;
+    let last = lists.last;
+    let ranges = [0, 32, last, 1, 32, last, 2, 32, last, 3, 32, last];
+    let pairs = [0u16, 39, 0, 40, 1, 39, 1, 40, 2, 39, 2, 40, 3, 39, 3, 40];
+    control::start(&ranges[0..r], &pairs[0..p])
+}
+
 // A table, and the lengths of the replies so far, added up modulo 1,000,000.
 struct Life {
     table: Table,
     sum: u64,
 }
 
-fn counted(life: Life, answer: Answer) -> Life {
-    let table = answer.table;
-    Life {
-        table: table,
-        sum: (life.sum % 1000000 + (answer.length % 4096) as u64) % 1000000,
-    }
+fn added(sum: u64, length: usize) -> u64 {
+    (sum % 1000000 + (length % 4096) as u64) % 1000000
 }
 
 impl Life {
+    fn new(number: u8) -> Life {
+        let fresh = started(lists_of(number));
+        let table = fresh.table;
+        Life {
+            table: table,
+            sum: 0,
+        }
+    }
+
+    fn answered(self, answer: Answer) -> Life {
+        let table = answer.table;
+        Life {
+            table: table,
+            sum: added(self.sum, answer.length),
+        }
+    }
+
     fn heard(self, m: &[u8], room: &mut [u8; 1024]) -> Life {
-        let table = self.table;
-        let answer = control::message(table, 1, 0, room, m);
-        counted(self, answer)
+        self.answered(control::message(self.table, 1, 0, room, m))
     }
 
     // A message without elements.
@@ -46,50 +119,36 @@ impl Life {
         self.heard(&m, room)
     }
 
-    fn user(self, slot: u64, room: &mut [u8; 1024]) -> Life {
-        let asked = self.set_up(200, room);
-        let table = asked.table;
-        let answer = control::connect(table, 1, 0, room, slot);
-        let active = counted(asked, answer);
-        let acknowledged = active.bare(0, 200, 0x0F, room);
-        acknowledged.heard(
-            &[
-                0x09,
-                0x03,
-                0,
-                0,
-                200,
-                0x4D,
-                0x80,
-                0,
-                6,
-                0x08,
-                0x80,
-                0,
-                2,
-                0x80,
-                0x90,
-            ],
-            room,
-        )
+    fn connected(self, slot: u64, room: &mut [u8; 1024]) -> Life {
+        self.answered(control::connect(self.table, 1, 0, room, slot))
     }
 
-    fn network(self, slot: u64, room: &mut [u8; 1024]) -> Life {
-        let table = self.table;
-        let m = SETUP;
-        let offered = control::offer(table, 1, 0, room, &m[9..]);
-        let present = counted(self, offered);
-        let proceeding = present.bare(0x80, 1, 0x02, room);
-        let active = proceeding.bare(0x80, 1, 0x07, room);
-        let called = active.table;
-        let cleared = control::clear(called, 1, 0, room, slot, 16);
-        let releasing = counted(active, cleared);
-        releasing.bare(0x80, 1, 0x5A, room)
+    fn offered(self, room: &mut [u8; 1024]) -> Life {
+        self.answered(control::offer(self.table, 1, 0, room, &SETUP[9..]))
     }
 
-    fn brief(self, room: &mut [u8; 1024]) -> Life {
-        let asked = self.set_up(200, room);
-        asked.bare(0, 200, 0x5A, room)
+    fn cleared(self, slot: u64, room: &mut [u8; 1024]) -> Life {
+        self.answered(control::clear(self.table, 1, 0, room, slot, 16))
+    }
+
+    fn user(mut self, slot: u64, room: &mut [u8; 1024]) -> Life {
+        self = self.set_up(200, room);
+        self = self.connected(slot, room);
+        self = self.bare(0, 200, 0x0F, room);
+        self.heard(&RELEASE, room)
+    }
+
+    fn network(mut self, slot: u64, room: &mut [u8; 1024]) -> Life {
+        self = self.offered(room);
+        self = self.bare(0x80, 1, 0x02, room);
+        self = self.bare(0x80, 1, 0x07, room);
+        self = self.cleared(slot, room);
+        self.bare(0x80, 1, 0x5A, room)
+    }
+
+    fn brief(mut self, room: &mut [u8; 1024]) -> Life {
+        self = self.set_up(200, room);
+        self.bare(0, 200, 0x5A, room)
     }
 
     fn of_kind(self, kind: u8, slot: u64, room: &mut [u8; 1024]) -> Life {
@@ -99,60 +158,24 @@ impl Life {
             _ => self.brief(room),
         }
     }
-}
 
-// LIVE calls on references from 1.
-fn filled(life: Life, live: u64, room: &mut [u8; 1024]) -> Life {
-    let mut l = life;
-    let mut i: u64 = 0;
-    while i < live {
-        l = l.set_up(((i + 1) % 256) as u8, room);
-        i += 1;
+    // LIVE calls on references from 1.
+    fn filled(mut self, live: u64, room: &mut [u8; 1024]) -> Life {
+        let mut i: u64 = 0;
+        while i < live {
+            self = self.set_up(((i + 1) % 256) as u8, room);
+            i += 1;
+        }
+        self
     }
-    l
-}
 
-fn lived(life: Life, kind: u8, live: u64, rounds: u64, room: &mut [u8; 1024]) -> Life {
-    let mut l = life;
-    let mut i: u64 = 0;
-    while i < rounds {
-        l = l.of_kind(kind, live, room);
-        i += 1;
-    }
-    l
-}
-
-// 1, 2 and 4: 32 channels in so many ranges. 0: 2 channels in one range. 3: 16 channels in four ranges. 5: 36 channels in
-// four ranges, the last two of each permanent.
-fn table_of(lists: u8) -> Table {
-    match lists {
-        0 => {
-            let started = control::start(&[0, 32, 33], &[]);
-            started.table
+    fn lived(mut self, kind: u8, live: u64, rounds: u64, room: &mut [u8; 1024]) -> Life {
+        let mut i: u64 = 0;
+        while i < rounds {
+            self = self.of_kind(kind, live, room);
+            i += 1;
         }
-        1 => {
-            let started = control::start(&[0, 32, 63], &[]);
-            started.table
-        }
-        2 => {
-            let started = control::start(&[0, 32, 47, 1, 32, 47], &[]);
-            started.table
-        }
-        3 => {
-            let started = control::start(&[0, 32, 35, 1, 32, 35, 2, 32, 35, 3, 32, 35], &[]);
-            started.table
-        }
-        5 => {
-            let started = control::start(
-                &[0, 32, 40, 1, 32, 40, 2, 32, 40, 3, 32, 40],
-                &[0, 39, 0, 40, 1, 39, 1, 40, 2, 39, 2, 40, 3, 39, 3, 40],
-            );
-            started.table
-        }
-        _ => {
-            let started = control::start(&[0, 32, 39, 1, 32, 39, 2, 32, 39, 3, 32, 39], &[]);
-            started.table
-        }
+        self
     }
 }
 
@@ -162,17 +185,19 @@ fn wide(octet: u8) -> u64
     octet as u64
 }
 
+// The sum of the replies' lengths, by the four octets of the input.
+fn sum_of(input: &[u8; 4]) -> u64 {
+    let mut room = [0u8; 1024];
+    let live = wide(input[1]);
+    let mut life = Life::new(input[3]);
+    life = life.filled(live, &mut room);
+    life = life.lived(input[0], live, wide(input[2]) * 100, &mut room);
+    life.sum
+}
+
 fn main() {
     let mut input = [0u8; 4];
-    let mut room = [0u8; 1024];
     io::read_full(0, &mut input);
-    let live = wide(input[1]);
-    let fresh = Life {
-        table: table_of(input[3]),
-        sum: 0,
-    };
-    let full = filled(fresh, live, &mut room);
-    let life = lived(full, input[0], live, wide(input[2]) * 100, &mut room);
-    io::print_decimal(1, life.sum);
+    io::print_decimal(1, sum_of(&input));
     io::write_all(1, b"\n");
 }

@@ -1,14 +1,14 @@
--- `lives::lived` is safe and ends: it counts up to `rounds`. Assumes nothing.
+-- `Life::lived` is safe and ends: it counts up to `rounds`. Assumes nothing.
 use borrow.Author.Needs.{needs}
 use Prim.Native.Nat.{_≤_, _-_}
-use Rattle.lives.proofs.lived.Statement.{statement}
-use Rattle.lives.proofs.lived.Tie as tie
+use Rattle.lives.proofs.Life.lived.Statement.{statement}
+use Rattle.lives.proofs.Life.lived.Tie as tie
 
 abbrev Inv-loop : tie.InvT-loop
-Inv-loop kind live rounds room₀ l₀ i₀ room l i = i ≤ rounds
+Inv-loop self₀ kind live rounds room₀ i₀ self room i = i ≤ rounds
 
 abbrev μ-loop : tie.MeasureT-loop
-μ-loop kind live rounds room₀ l₀ i₀ room l i = rounds - i
+μ-loop self₀ kind live rounds room₀ i₀ self room i = rounds - i
 
 loop-holds : tie.Need-loop-holds Inv-loop μ-loop
 loop-holds c = search needs

@@ -1,14 +1,14 @@
--- `lives::filled` is safe and ends: it counts up to `live`. Assumes nothing.
+-- `Life::filled` is safe and ends: it counts up to `live`. Assumes nothing.
 use borrow.Author.Needs.{needs}
 use Prim.Native.Nat.{_≤_, _-_}
-use Rattle.lives.proofs.filled.Statement.{statement}
-use Rattle.lives.proofs.filled.Tie as tie
+use Rattle.lives.proofs.Life.filled.Statement.{statement}
+use Rattle.lives.proofs.Life.filled.Tie as tie
 
 abbrev Inv-loop : tie.InvT-loop
-Inv-loop live room₀ l₀ i₀ room l i = i ≤ live
+Inv-loop self₀ live room₀ i₀ self room i = i ≤ live
 
 abbrev μ-loop : tie.MeasureT-loop
-μ-loop live room₀ l₀ i₀ room l i = live - i
+μ-loop self₀ live room₀ i₀ self room i = live - i
 
 loop-holds : tie.Need-loop-holds Inv-loop μ-loop
 loop-holds c = search needs
