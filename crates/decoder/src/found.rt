@@ -102,7 +102,7 @@ fn readable_traffic(c: &[u8]) {
 // 59 Traffic descriptor: its subfields, and whether the traffic rule allows it.
 pub(crate) fn traffic(m: &[u8]) {
     label(b'5', b'9');
-    match elements::traffic(m, 9) {
+    match elements::look_for(m, 9, 0x59) {
         Look::Absent => {
             absent();
             rule(false);

@@ -1,7 +1,7 @@
 // What is found of an identifier among elements, and the values of a message's elements.
 //   action_fits, Look, look_for   absent, unreadable, or where the readable contents are
-//   cause, call_state, traffic, connection, bearer, restart      what one element says, as a `CauseRead`, `CallStateRead`,
-//                                 `Look`, `ConnectionRead`, `BearerRead`, `RestartRead`
+//   cause, call_state, connection, bearer, restart      what one element says, as a `CauseRead`, `CallStateRead`,
+//                                 `ConnectionRead`, `BearerRead`, `RestartRead`; of 59, crate `traffic` asks the contents
 // `m` is any octets, and `from` the place of the first element: 9 in a message, 0 in an offer's body.
 // Nothing has a `requires`. Assumes nothing.
 use items::Item;
@@ -85,14 +85,6 @@ pub fn call_state(m: &[u8], from: usize) -> CallStateRead
         Look::Unreadable => CallStateRead::Unreadable,
         Look::Readable(start, end) => CallStateRead::Value(contents::call_state(&m[start..end])),
     }
-}
-
-// 59 Traffic descriptor: where its contents are, for crate `traffic` to ask.
-pub fn traffic(m: &[u8], from: usize) -> Look
-    ensures { λ r. ⌜ r ≡ lookFor (now (m .entry)) from 0x59 ⌝ }
-    ensures within { λ r. ⌜ Within (length (now (m .entry))) r ⌝ }
-{
-    look_for(m, from, 0x59)
 }
 
 // 5A Connection identifier: VPCI and VCI.

@@ -6,8 +6,8 @@ use Rattle.decoder.proofs.found.traffic.Tie as tie
 label-requires : tie.Need-label-requires
 label-requires c κs = search needs
 
-traffic-requires : tie.Need-traffic-requires
-traffic-requires c κs = search needs
+look-for-requires : tie.Need-look-for-requires
+look-for-requires c κs = search needs
 
 enum-told : tie.Need-enum-told
 enum-told c = search needs
@@ -31,13 +31,13 @@ enum-known-start : tie.Need-enum-known-start
 enum-known-start c = search needs
 
 sub-readable-traffic : tie.Need-sub-readable-traffic
-sub-readable-traffic c = (rw (c .before .start .given .1) at (c .before .before .before .traffic .ensures .1)) .0
+sub-readable-traffic c = (rw (c .before .start .given .1) at (c .before .before .before .look-for .ensures .1)) .0
 
 part-readable-traffic-start : tie.Need-part-readable-traffic-start
-part-readable-traffic-start c = (rw (c .before .start .given .1) at (c .before .before .before .traffic .ensures .1)) .0
+part-readable-traffic-start c = (rw (c .before .start .given .1) at (c .before .before .before .look-for .ensures .1)) .0
 
 part-readable-traffic-end : tie.Need-part-readable-traffic-end
-part-readable-traffic-end c = (rw (c .before .start .given .1) at (c .before .before .before .traffic .ensures .1)) .1
+part-readable-traffic-end c = (rw (c .before .start .given .1) at (c .before .before .before .look-for .ensures .1)) .1
 
 readable-traffic-requires : tie.Need-readable-traffic-requires
 readable-traffic-requires c κs = search needs
@@ -56,7 +56,7 @@ traffic-spec =
     tie.close
     (tie.spec
     label-requires
-    traffic-requires
+    look-for-requires
     enum-told
     absent-requires
     rule-requires
