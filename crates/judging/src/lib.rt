@@ -22,6 +22,7 @@ ghost use Prim.Native.Nat.{_≤_};
 ghost use Rattle.judging.specs.Class.{classify};
 ghost use Rattle.judging.specs.Judge.{releaseComplete, releaseReply, statusVerdict, statusOf, contentsVerdict, judge, statusReply, noCallReply, globalReply};
 ghost use Rattle.elements.specs.Values.{causeIn, callStateIn};
+ghost use Rattle.verdicts.specs.Verdict.{answered};
 
 // What a message is to a live call.
 pub enum Class {
@@ -45,28 +46,20 @@ pub enum Kind {
 pub fn class_of(kind: u8, phase: Phase) -> Class
     ensures { λ r. ⌜ r ≡ classify kind phase ⌝ }
 {
+    let state = phase.state_number();
     match kind {
-        0x02 => match phase {
-            Phase::N3 => Class::Unexpected,
-            Phase::N6(_) => Class::Expected(Kind::CallProceeding),
-            Phase::N9(_) => Class::Unexpected,
-            Phase::N10 => Class::Unexpected,
-            Phase::N12(_) => Class::Unexpected,
+        0x02 => match state {
+            6 => Class::Expected(Kind::CallProceeding),
+            _ => Class::Unexpected,
         },
         0x05 => Class::Ignored,
-        0x07 => match phase {
-            Phase::N3 => Class::Unexpected,
-            Phase::N6(_) => Class::Expected(Kind::Connect),
-            Phase::N9(_) => Class::Expected(Kind::Connect),
-            Phase::N10 => Class::Unexpected,
-            Phase::N12(_) => Class::Unexpected,
+        0x07 => match state {
+            6 | 9 => Class::Expected(Kind::Connect),
+            _ => Class::Unexpected,
         },
-        0x0F => match phase {
-            Phase::N3 => Class::Unexpected,
-            Phase::N6(_) => Class::Unexpected,
-            Phase::N9(_) => Class::Unexpected,
-            Phase::N10 => Class::Expected(Kind::ConnectAcknowledge),
-            Phase::N12(_) => Class::Unexpected,
+        0x0F => match state {
+            10 => Class::Expected(Kind::ConnectAcknowledge),
+            _ => Class::Unexpected,
         },
         0x46 => Class::Unexpected,
         0x4D => Class::Expected(Kind::Release),
@@ -115,11 +108,11 @@ fn status_verdict(m: &[u8]) -> Verdict
     }
 }
 
-// STATUS with the call's state.
-fn status_of(phase: Phase, number: u8, diagnostic: Diagnostic) -> Reply
-    ensures { λ r. ⌜ r ≡ statusOf phase number diagnostic ⌝ }
+// The message is answered with STATUS, which says the call's state.
+fn stated(phase: Phase, number: u8, diagnostic: Diagnostic) -> Verdict
+    ensures { λ r. ⌜ r ≡ answered (statusOf phase number diagnostic) ⌝ }
 {
-    Reply::Status(phase.state_number(), because(number, diagnostic))
+    answered(Reply::Status(phase.state_number(), because(number, diagnostic)))
 }
 
 // An expected message whose length field is right.
@@ -133,7 +126,7 @@ fn judge_contents(kind: Kind, m: &[u8], phase: Phase, reading: u64) -> Verdict
         Kind::ConnectAcknowledge => answered(Reply::None),
         Kind::Release => ended(release_reply(m, phase)),
         Kind::ReleaseComplete => ended(Reply::None),
-        Kind::StatusEnquiry => answered(status_of(phase, 30, Diagnostic::None)),
+        Kind::StatusEnquiry => stated(phase, 30, Diagnostic::None),
         Kind::Status => status_verdict(m),
     }
 }
@@ -145,8 +138,8 @@ pub fn judge(m: &[u8], head: Header, phase: Phase, reading: u64) -> Verdict
 {
     match class_of(head.kind, phase) {
         Class::Ignored => answered(Reply::None),
-        Class::Unknown => answered(status_of(phase, 97, Diagnostic::Octet(head.kind))),
-        Class::Unexpected => answered(status_of(phase, 101, Diagnostic::Octet(head.kind))),
+        Class::Unknown => stated(phase, 97, Diagnostic::Octet(head.kind)),
+        Class::Unexpected => stated(phase, 101, Diagnostic::Octet(head.kind)),
         Class::Expected(kind) => {
             if head.whole {
                 return judge_contents(kind, m, phase, reading);

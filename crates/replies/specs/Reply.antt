@@ -1,6 +1,7 @@
 -- The messages that we send, as values: each reply's type and elements, and SETUP with an offer's body.
 --   diagnosticOctets           what follows a cause number
---   cause, callState, connection, restart      the elements that we write
+--   inField                    the octets of a diagnostic field
+--   cause, short, callState, connection, restart      the elements that we write
 --   kindOf, elementsOf, meant  a reply's type, its elements, and the message that it is
 --   replyOctets                its octets: none where there is no reply
 --   setupOctets                SETUP: the Connection identifier and then the body as it came
@@ -42,6 +43,10 @@ diagnosticOctets diagnostic.Timer = 0x33 ∷ 0x31 ∷ 0x30 ∷ []
 -- "We write Cause with octet 2 80, location 81, the cause plus 80 hex, then diagnostics" (a cause number is below 128)
 abbrev pub cause : Cause → Element
 cause c = record { ident = 0x08; action = 0x80; contents = 0x81 ∷ (c .number % 128 + 0x80) ∷ diagnosticOctets (c .diagnostic) }
+
+-- an element that we write, with one octet of contents
+abbrev pub short : ℕ → ℕ → Element
+short ident octet = record { ident = ident; action = 0x80; contents = octet ∷ [] }
 
 abbrev pub callState : ℕ → Element
 callState s = record { ident = 0x14; action = 0x80; contents = s ∷ [] }

@@ -10,7 +10,7 @@ ghost use mathlib.Core.List.{_∷_, [], _++_};
 ghost use lib.ListN.{length};
 ghost use Rattle.octets.specs.Octets.{high, low, Wrote, Fills, front};
 ghost use Rattle.replies.specs.Message.{header, elementOctets, message, octets};
-ghost use Rattle.replies.specs.Reply.{inField, optional, identifiers, diagnosticOctets, cause, callState, connection, restart, replyOctets, setupOctets};
+ghost use Rattle.replies.specs.Reply.{inField, optional, identifiers, diagnosticOctets, cause, short, callState, connection, restart, replyOctets, setupOctets};
 
 // Some of the four elements that SETUP must have: 59, 5C, 5E and 70.
 pub struct Mandatory {
@@ -167,11 +167,12 @@ fn put_cause(room: &mut [u8], at: usize, why: Cause) -> usize
     octets::put(room, next, &octets[..size])
 }
 
-fn put_call_state(room: &mut [u8], at: usize, state: u8) -> usize
+// An element whose contents are one octet.
+fn put_short(room: &mut [u8], at: usize, ident: u8, octet: u8) -> usize
     requires { ⌜ at + 5 ≤ length (now room) ⌝ }
-    ensures { λ r. ⌜ Wrote (now (room .entry)) at (elementOctets (callState state)) (now (room .exit)) r ⌝ }
+    ensures { λ r. ⌜ Wrote (now (room .entry)) at (elementOctets (short ident octet)) (now (room .exit)) r ⌝ }
 {
-    octets::put(room, at, &[0x14, 0x80, 0, 1, state])
+    octets::put(room, at, &[ident, 0x80, 0, 1, octet])
 }
 
 fn put_connection(room: &mut [u8], at: usize, vpci: u16, vci: u16) -> usize
@@ -183,13 +184,6 @@ fn put_connection(room: &mut [u8], at: usize, vpci: u16, vci: u16) -> usize
     let v = (vci / 256 % 256) as u8;
     let w = (vci % 256) as u8;
     octets::put(room, at, &[0x5A, 0x80, 0, 5, 0x88, p, q, v, w])
-}
-
-fn put_restart(room: &mut [u8], at: usize, class: u8) -> usize
-    requires { ⌜ at + 5 ≤ length (now room) ⌝ }
-    ensures { λ r. ⌜ Wrote (now (room .entry)) at (elementOctets (restart class)) (now (room .exit)) r ⌝ }
-{
-    octets::put(room, at, &[0x79, 0x80, 0, 1, class])
 }
 
 // A message with no element.
@@ -236,7 +230,7 @@ fn write_status(room: &mut [u8], flag: bool, reference: u32, state: u8, why: Cau
     let field = diagnostic_field(diagnostic);
     let size = 11 + field.size;
     let first = put_header(room, flag, reference, 0x7D, size);
-    let second = put_call_state(room, first, state);
+    let second = put_short(room, first, 0x14, state);
     put_cause(room, second, why)
 }
 
@@ -245,7 +239,7 @@ fn write_restart_all(room: &mut [u8], flag: bool, reference: u32) -> usize
     ensures { λ r. ⌜ Fills (now (room .entry)) (octets (message flag reference 0x4E (restart 0x82 ∷ []))) (now (room .exit)) r ⌝ }
 {
     let at = put_header(room, flag, reference, 0x4E, 5);
-    put_restart(room, at, 0x82)
+    put_short(room, at, 0x79, 0x82)
 }
 
 fn write_restart_pair(room: &mut [u8], flag: bool, reference: u32, vpci: u16, vci: u16) -> usize
@@ -253,7 +247,7 @@ fn write_restart_pair(room: &mut [u8], flag: bool, reference: u32, vpci: u16, vc
     ensures { λ r. ⌜ Fills (now (room .entry)) (octets (message flag reference 0x4E (restart 0x80 ∷ connection vpci vci ∷ []))) (now (room .exit)) r ⌝ }
 {
     let first = put_header(room, flag, reference, 0x4E, 14);
-    let second = put_restart(room, first, 0x80);
+    let second = put_short(room, first, 0x79, 0x80);
     put_connection(room, second, vpci, vci)
 }
 

@@ -1,123 +1,62 @@
 -- `judging::class_of` meets its contract: each arm by its number, and by the state where it matters.
 -- Assumes nothing.
-use borrow.Author.Needs.{needs}
 use borrow.Author.Tests.{ne-eqb}
+use Rattle.judging.specs.declared.Class.the-variants.{Expected}
+use Rattle.judging.specs.declared.Kind.the-variants.{CallProceeding, Connect, ConnectAcknowledge}
+use Rattle.judging.proofs.States.{in-N6, off-N6, in-N6or9, off-N6or9, in-N10, off-N10}
 use Rattle.judging.proofs.class_of.Statement.{statement}
 use Rattle.judging.proofs.class_of.Tie as tie
 
-enum-told : tie.Need-enum-told
-enum-told c = search needs
-
-enum-told-2 : tie.Need-enum-told-2
-enum-told-2 c = search needs
-
-enum-told-3 : tie.Need-enum-told-3
-enum-told-3 c = search needs
-
-enum-told-4 : tie.Need-enum-told-4
-enum-told-4 c = search needs
-
-enum-told-5 : tie.Need-enum-told-5
-enum-told-5 c = search needs
-
-enum-told-6 : tie.Need-enum-told-6
-enum-told-6 c = search needs
-
-enum-told-7 : tie.Need-enum-told-7
-enum-told-7 c = search needs
-
-enum-told-8 : tie.Need-enum-told-8
-enum-told-8 c = search needs
-
-enum-told-9 : tie.Need-enum-told-9
-enum-told-9 c = search needs
-
-enum-told-10 : tie.Need-enum-told-10
-enum-told-10 c = search needs
-
-enum-told-11 : tie.Need-enum-told-11
-enum-told-11 c = search needs
-
-enum-told-12 : tie.Need-enum-told-12
-enum-told-12 c = search needs
-
-enum-told-13 : tie.Need-enum-told-13
-enum-told-13 c = search needs
-
-enum-told-14 : tie.Need-enum-told-14
-enum-told-14 c = search needs
-
-enum-told-15 : tie.Need-enum-told-15
-enum-told-15 c = search needs
+state-number-requires : tie.Need-state-number-requires
+state-number-requires c κs = tt
 
 returns : tie.Need-returns
-returns c = rw (c .before .before .match .keys1, c .enum-told .given .1)
+returns c = let s = c .before .before in
+    rw (c .before .match .keys1) (in-N6 (s .before .args .phase) (Expected CallProceeding) _ (s .state-number .ensures) (c .match2 .keys1))
 
 returns-2 : tie.Need-returns-2
-returns-2 c = rw (c .before .before .match .keys1, c .enum-told2 .given .1)
+returns-2 c = let s = c .before .before in
+    rw (c .before .match .keys1) (off-N6 (s .before .args .phase) (Expected CallProceeding) _ (s .state-number .ensures) (c .match2 .rest .1))
 
 returns-3 : tie.Need-returns-3
-returns-3 c = rw (c .before .before .match .keys1, c .enum-told3 .given .1)
+returns-3 c = rw (c .match .keys2)
 
 returns-4 : tie.Need-returns-4
-returns-4 c = rw (c .before .before .match .keys1, c .enum-told4 .given .1)
+returns-4 c = let s = c .before .before in
+    rw (c .before .match .keys3) (in-N6or9 (s .before .args .phase) (Expected Connect) _ (s .state-number .ensures) (c .match3 .keys1))
 
 returns-5 : tie.Need-returns-5
-returns-5 c = rw (c .before .before .match .keys1, c .enum-told5 .given .1)
+returns-5 c = let s = c .before .before in
+    rw (c .before .match .keys3) (off-N6or9 (s .before .args .phase) (Expected Connect) _ (s .state-number .ensures) (c .match3 .rest .1))
 
 returns-6 : tie.Need-returns-6
-returns-6 c = rw (c .match .keys2)
+returns-6 c = let s = c .before .before in
+    rw (c .before .match .keys4) (in-N10 (s .before .args .phase) (Expected ConnectAcknowledge) _ (s .state-number .ensures) (c .match4 .keys1))
 
 returns-7 : tie.Need-returns-7
-returns-7 c = rw (c .before .before .match .keys3, c .enum-told6 .given .1)
+returns-7 c = let s = c .before .before in
+    rw (c .before .match .keys4) (off-N10 (s .before .args .phase) (Expected ConnectAcknowledge) _ (s .state-number .ensures) (c .match4 .rest .1))
 
 returns-8 : tie.Need-returns-8
-returns-8 c = rw (c .before .before .match .keys3, c .enum-told7 .given .1)
+returns-8 c = rw (c .match .keys5)
 
 returns-9 : tie.Need-returns-9
-returns-9 c = rw (c .before .before .match .keys3, c .enum-told8 .given .1)
+returns-9 c = rw (c .match .keys6)
 
 returns-10 : tie.Need-returns-10
-returns-10 c = rw (c .before .before .match .keys3, c .enum-told9 .given .1)
+returns-10 c = rw (c .match .keys7)
 
 returns-11 : tie.Need-returns-11
-returns-11 c = rw (c .before .before .match .keys3, c .enum-told10 .given .1)
+returns-11 c = rw (c .match .keys8)
 
 returns-12 : tie.Need-returns-12
-returns-12 c = rw (c .before .before .match .keys4, c .enum-told11 .given .1)
+returns-12 c = rw (c .match .keys9)
 
 returns-13 : tie.Need-returns-13
-returns-13 c = rw (c .before .before .match .keys4, c .enum-told12 .given .1)
+returns-13 c = rw (c .match .keys10)
 
 returns-14 : tie.Need-returns-14
-returns-14 c = rw (c .before .before .match .keys4, c .enum-told13 .given .1)
-
-returns-15 : tie.Need-returns-15
-returns-15 c = rw (c .before .before .match .keys4, c .enum-told14 .given .1)
-
-returns-16 : tie.Need-returns-16
-returns-16 c = rw (c .before .before .match .keys4, c .enum-told15 .given .1)
-
-returns-17 : tie.Need-returns-17
-returns-17 c = rw (c .match .keys5)
-
-returns-18 : tie.Need-returns-18
-returns-18 c = rw (c .match .keys6)
-
-returns-19 : tie.Need-returns-19
-returns-19 c = rw (c .match .keys7)
-
-returns-20 : tie.Need-returns-20
-returns-20 c = rw (c .match .keys8)
-
-returns-21 : tie.Need-returns-21
-returns-21 c = rw (c .match .keys9)
-
-returns-22 : tie.Need-returns-22
-returns-22 c = rw (c .match .keys10)
-
-returns-23 : tie.Need-returns-23
-returns-23 c = let r = c .match .rest in
+returns-14 c = let r = c .match .rest in
     rw (
       ne-eqb _ 0x02 (r .0 .0 .0 .0 .0 .0 .0 .0 .0 .1),
       ne-eqb _ 0x05 (r .0 .0 .0 .0 .0 .0 .0 .0 .1),
@@ -135,21 +74,7 @@ pub class-of-spec : {M : Type 1} → statement M
 class-of-spec =
     tie.close
     (tie.spec
-    enum-told
-    enum-told-2
-    enum-told-3
-    enum-told-4
-    enum-told-5
-    enum-told-6
-    enum-told-7
-    enum-told-8
-    enum-told-9
-    enum-told-10
-    enum-told-11
-    enum-told-12
-    enum-told-13
-    enum-told-14
-    enum-told-15
+    state-number-requires
     returns
     returns-2
     returns-3
@@ -163,13 +88,4 @@ class-of-spec =
     returns-11
     returns-12
     returns-13
-    returns-14
-    returns-15
-    returns-16
-    returns-17
-    returns-18
-    returns-19
-    returns-20
-    returns-21
-    returns-22
-    returns-23)
+    returns-14)

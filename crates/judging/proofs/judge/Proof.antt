@@ -1,8 +1,7 @@
 -- `judging::judge` meets its contract: by what the message is to the call.
 -- Assumes nothing.
 use borrow.Author.Needs.{needs}
-use mathlib.Core.Path.{sym, ap, _∙_}
-use Rattle.verdicts.specs.Verdict.{answered}
+use mathlib.Core.Path.{sym, _∙_}
 use Rattle.judging.proofs.judge.Statement.{statement}
 use Rattle.judging.proofs.judge.Tie as tie
 
@@ -18,20 +17,14 @@ answered-requires c κs = search needs
 enum-told-2 : tie.Need-enum-told-2
 enum-told-2 c = search needs
 
-status-of-requires : tie.Need-status-of-requires
-status-of-requires c κs = search needs
-
-answered-requires-2 : tie.Need-answered-requires-2
-answered-requires-2 c κs = search needs
+stated-requires : tie.Need-stated-requires
+stated-requires c κs = search needs
 
 enum-told-3 : tie.Need-enum-told-3
 enum-told-3 c = search needs
 
-status-of-requires-2 : tie.Need-status-of-requires-2
-status-of-requires-2 c κs = search needs
-
-answered-requires-3 : tie.Need-answered-requires-3
-answered-requires-3 c κs = search needs
+stated-requires-2 : tie.Need-stated-requires-2
+stated-requires-2 c κs = search needs
 
 enum-known-kind : tie.Need-enum-known-kind
 enum-known-kind c = search needs
@@ -43,23 +36,21 @@ returns : tie.Need-returns
 returns c = rw (sym (c .before .before .before .before .before .class-of .ensures) ∙ c .before .before .before .kind .given .1, c .before .if1 .taken)
     (c .judge-contents .ensures)
 
-answered-requires-4 : tie.Need-answered-requires-4
-answered-requires-4 c κs = search needs
+answered-requires-2 : tie.Need-answered-requires-2
+answered-requires-2 c κs = search needs
 
 returns-2 : tie.Need-returns-2
 returns-2 c = rw (sym (c .before .before .before .class-of .ensures) ∙ c .before .enum-told .given .1) (c .answered .ensures)
 
 returns-3 : tie.Need-returns-3
-returns-3 c = rw (sym (c .before .before .before .before .class-of .ensures) ∙ c .before .before .enum-told2 .given .1)
-    (c .answered2 .ensures ∙ ap answered (c .before .status-of .ensures))
+returns-3 c = rw (sym (c .before .before .before .class-of .ensures) ∙ c .before .enum-told2 .given .1) (c .stated .ensures)
 
 returns-4 : tie.Need-returns-4
-returns-4 c = rw (sym (c .before .before .before .before .class-of .ensures) ∙ c .before .before .enum-told3 .given .1)
-    (c .answered3 .ensures ∙ ap answered (c .before .status-of2 .ensures))
+returns-4 c = rw (sym (c .before .before .before .class-of .ensures) ∙ c .before .enum-told3 .given .1) (c .stated2 .ensures)
 
 returns-5 : tie.Need-returns-5
 returns-5 c = rw (sym (c .before .before .before .before .before .class-of .ensures) ∙ c .before .before .before .kind .given .1, c .before .if1 .left)
-    (c .answered4 .ensures)
+    (c .answered2 .ensures)
 
 pub judge-spec : {M : Type 1} → statement M
 judge-spec =
@@ -69,15 +60,13 @@ judge-spec =
     enum-told
     answered-requires
     enum-told-2
-    status-of-requires
-    answered-requires-2
+    stated-requires
     enum-told-3
-    status-of-requires-2
-    answered-requires-3
+    stated-requires-2
     enum-known-kind
     judge-contents-requires
     returns
-    answered-requires-4
+    answered-requires-2
     returns-2
     returns-3
     returns-4

@@ -2,7 +2,7 @@
 -- Assumes nothing.
 use borrow.Author.Needs.{needs}
 use mathlib.Core.Path.{ap, _∙_}
-use Rattle.verdicts.specs.Verdict.{answered, ended}
+use Rattle.verdicts.specs.Verdict.{ended}
 use Rattle.judging.proofs.judge_contents.Statement.{statement}
 use Rattle.judging.proofs.judge_contents.Tie as tie
 
@@ -45,11 +45,8 @@ ended-requires-2 c κs = search needs
 enum-told-6 : tie.Need-enum-told-6
 enum-told-6 c = search needs
 
-status-of-requires : tie.Need-status-of-requires
-status-of-requires c κs = search needs
-
-answered-requires-2 : tie.Need-answered-requires-2
-answered-requires-2 c κs = search needs
+stated-requires : tie.Need-stated-requires
+stated-requires c κs = search needs
 
 enum-told-7 : tie.Need-enum-told-7
 enum-told-7 c = search needs
@@ -73,7 +70,7 @@ returns-5 : tie.Need-returns-5
 returns-5 c = rw (c .before .enum-told5 .given .1) (c .ended2 .ensures)
 
 returns-6 : tie.Need-returns-6
-returns-6 c = rw (c .before .before .enum-told6 .given .1) (c .answered2 .ensures ∙ ap answered (c .before .status-of .ensures))
+returns-6 c = rw (c .before .enum-told6 .given .1) (c .stated .ensures)
 
 returns-7 : tie.Need-returns-7
 returns-7 c = rw (c .before .enum-told7 .given .1) (c .status-verdict .ensures)
@@ -95,8 +92,7 @@ judge-contents-spec =
     enum-told-5
     ended-requires-2
     enum-told-6
-    status-of-requires
-    answered-requires-2
+    stated-requires
     enum-told-7
     status-verdict-requires
     returns

@@ -13,8 +13,8 @@ use Rattle.replies.proofs.write_restart_all.Tie as tie
 put-header-requires : tie.Need-put-header-requires
 put-header-requires c κs = search needs
 
-put-restart-requires : tie.Need-put-restart-requires
-put-restart-requires c κs = search needs
+put-short-requires : tie.Need-put-short-requires
+put-short-requires c κs = search needs
 
 same-length : tie.Need-same-length
 same-length c = search needs
@@ -24,8 +24,8 @@ returns c = let e = c .before .before in
     let h = e .before .before .before .before in
     let a = h .before .before .before .args in
     whole (a .flag) (a .reference) 0x4E 5 (restart 0x82 ∷ []) refl (omega arith)
-    (chain (h .put-header .ensures) (e .put-restart .ensures))
+    (chain (h .put-header .ensures) (e .put-short .ensures))
 
 pub write-restart-all-spec : {M : Type 1} → statement M
 write-restart-all-spec =
-    tie.close (tie.spec put-header-requires put-restart-requires same-length returns)
+    tie.close (tie.spec put-header-requires put-short-requires same-length returns)

@@ -13,8 +13,8 @@ use Rattle.replies.proofs.write_restart_pair.Tie as tie
 put-header-requires : tie.Need-put-header-requires
 put-header-requires c κs = search needs
 
-put-restart-requires : tie.Need-put-restart-requires
-put-restart-requires c κs = search needs
+put-short-requires : tie.Need-put-short-requires
+put-short-requires c κs = search needs
 
 put-connection-requires : tie.Need-put-connection-requires
 put-connection-requires c κs = search needs
@@ -28,9 +28,9 @@ returns c = let e = c .before .before in
     let h = s .before .before .before .before in
     let a = h .before .before .before .args in
     whole (a .flag) (a .reference) 0x4E 14 (restart 0x80 ∷ connection (a .vpci) (a .vci) ∷ []) refl (omega arith)
-    (chain (h .put-header .ensures) (chain (s .put-restart .ensures) (e .put-connection .ensures)))
+    (chain (h .put-header .ensures) (chain (s .put-short .ensures) (e .put-connection .ensures)))
 
 pub write-restart-pair-spec : {M : Type 1} → statement M
 write-restart-pair-spec =
     tie.close
-    (tie.spec put-header-requires put-restart-requires put-connection-requires same-length returns)
+    (tie.spec put-header-requires put-short-requires put-connection-requires same-length returns)

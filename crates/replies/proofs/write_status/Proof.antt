@@ -23,8 +23,8 @@ add-size c = search needs
 put-header-requires : tie.Need-put-header-requires
 put-header-requires c κs = search needs
 
-put-call-state-requires : tie.Need-put-call-state-requires
-put-call-state-requires c κs = search needs
+put-short-requires : tie.Need-put-short-requires
+put-short-requires c κs = search needs
 
 put-cause-requires : tie.Need-put-cause-requires
 put-cause-requires c κs = search needs
@@ -45,7 +45,7 @@ returns c = let e = c .before .before in
     rw (body-size (callState (a .state)) (cause (a .why) ∷ []), body-size (cause (a .why)) []) (omega arith)
     in
     whole (a .flag) (a .reference) 0x7D (11 + f .size) es size (omega arith)
-    (chain (h .put-header .ensures) (chain (s .put-call-state .ensures) (chain (e .put-cause .ensures) (wrote-none _ _))))
+    (chain (h .put-header .ensures) (chain (s .put-short .ensures) (chain (e .put-cause .ensures) (wrote-none _ _))))
 
 pub write-status-spec : {M : Type 1} → statement M
 write-status-spec =
@@ -54,7 +54,7 @@ write-status-spec =
     diagnostic-field-requires
     add-size
     put-header-requires
-    put-call-state-requires
+    put-short-requires
     put-cause-requires
     same-length
     returns)
