@@ -19,7 +19,7 @@ use native.Mathlib.Omega.{arith}
 use lib.Dec.{eqb, ltb}
 use borrow.Author.Tests.{ltb-true, ltb-false, eqb-true, eqb-false, lt-ltb, eq-eqb}
 use Rattle.channels.specs.Channels.{isPair}
-use Rattle.channels.specs.Doubts.{noChannel, channelBefore}
+use Rattle.channels.specs.Order.{noChannel, channelBefore}
 use Rattle.channels.specs.declared.Channel.{Channel}
 use Rattle.channels.specs.declared.Channel.the-variants.{None, Pair}
 use Rattle.channels.proofs.Cases.{by-test, clash, both}

@@ -1,3 +1,3 @@
 pub mod Some
 pub mod Channels
-pub mod Doubts
+pub mod Order

@@ -1,24 +1,19 @@
-// Channels: permitted ranges, permanent pairs, and pairs in doubt.
+// Channels: permitted ranges, permanent pairs, and a pair.
 //   Channel, Entry, Range     a pair of VPCI and VCI or none, one entry of a list of them, one permitted range
 //   Pool, Held                what start permits; the pairs that live calls hold, one entry for each slot
-//   Doubts, Doubting          the pairs in doubt, ascending; what an event does to them
 //   Entry::is                 if an entry is a pair
 //   Entry::is_none            if an entry has no pair
 //   Entry::is_before          the order of entries by VPCI and then VCI
 //   Range::unused             the range without a VCI
 //   Held::holds               if a live call holds a pair
-//   Doubts::none              no pair in doubt
-//   Doubts::is_full           if there is no room for one more
-//   Doubts::begin, end        a doubt begins, ends
-//   Doubts::after             what an event makes of them
 //   Pool::is_permanent        if a pair is permanent
 //   Pool::permits             if a pair is in a range and not permanent
 //   Pool::knows_vpci          if a VPCI stands in a range or in a permanent pair
 //   Pool::empty               the pool without ranges and without permanent pairs
 // Nothing here has a `requires`. Assumes nothing.
 ghost use mathlib.Core.Path.{_≡_};
-ghost use Rattle.channels.specs.Doubts.{isNone, entryBefore, doubtsOf, noDoubts, isFull, pairEntry, sunk, closedUp, ended, doubtsAfter};
-ghost use Rattle.channels.specs.Channels.{isEntry, among, inRange, inRanges, permitted, spansVpci, namesVpci, spannedVpci, namedVpci, knownVpci, noRange, noEntry, emptyPool};
+ghost use Rattle.channels.specs.Order.{isNone, entryBefore};
+ghost use Rattle.channels.specs.Channels.{isEntry, among, inRange, inRanges, permitted, spansVpci, namesVpci, spannedVpci, namedVpci, knownVpci, noRange, emptyPool};
 
 // A VPCI and a VCI, or none.
 pub enum Channel {
@@ -47,19 +42,6 @@ pub struct Pool {
 // The pairs that live calls hold, one entry for each slot.
 pub struct Held {
     pub entries: [Entry; 32],
-}
-
-// The pairs in doubt: ascending, and none behind them.
-pub struct Doubts {
-    pub entries: [Entry; 64],
-}
-
-// What an event does to the pairs in doubt: a doubt begins or ends, or all end.
-pub enum Doubting {
-    Keep,
-    Begin(u16, u16),
-    End(u16, u16),
-    EndAll,
 }
 
 impl Entry {
@@ -168,94 +150,6 @@ impl Held {
             i += 1;
         }
         false
-    }
-}
-
-impl Doubts {
-    pub fn none() -> Doubts
-        ensures { λ r. ⌜ r ≡ noDoubts ⌝ }
-    {
-        let entry = Entry {
-            channel: Channel::None,
-        };
-        let entries = [entry; 64];
-        Doubts { entries: entries }
-    }
-
-    pub fn is_full(self) -> bool
-        ensures { λ r. ⌜ r ≡ isFull (self .entries) ⌝ }
-    {
-        let mut i: usize = 0;
-        while i < 64 {
-            let e = self.entries[i];
-            if e.is_none() {
-                return false;
-            }
-            i += 1;
-        }
-        true
-    }
-
-    // The pair goes in at its place: those behind it go one further.
-    pub fn begin(self, vpci: u16, vci: u16) -> Doubts
-        ensures { λ r. ⌜ r ≡ doubtsOf (sunk (pairEntry vpci vci) (self .entries)) ⌝ }
-    {
-        let mut entries = self.entries;
-        let mut carried = Entry {
-            channel: Channel::Pair(vpci, vci),
-        };
-        for i in 0..64 {
-            let e = entries[i];
-            if e.is_before(carried) {
-                continue;
-            }
-            entries[i] = carried;
-            carried = e;
-        }
-        Doubts { entries: entries }
-    }
-
-    // The entry at a place goes out: those behind it come one nearer.
-    fn close_up(self, at: usize) -> Doubts
-        ensures { λ r. ⌜ r ≡ doubtsOf (closedUp at noEntry (self .entries)) ⌝ }
-    {
-        let mut entries = self.entries;
-        let mut carried = Entry {
-            channel: Channel::None,
-        };
-        let mut i: usize = 64;
-        while i > at {
-            i -= 1;
-            let e = entries[i];
-            entries[i] = carried;
-            carried = e;
-        }
-        Doubts { entries: entries }
-    }
-
-    pub fn end(self, vpci: u16, vci: u16) -> Doubts
-        ensures { λ r. ⌜ r ≡ doubtsOf (ended vpci vci (self .entries)) ⌝ }
-    {
-        let mut i: usize = 0;
-        while i < 64 {
-            let e = self.entries[i];
-            if e.is(vpci, vci) {
-                return self.close_up(i);
-            }
-            i += 1;
-        }
-        self
-    }
-
-    pub fn after(self, doubting: Doubting) -> Doubts
-        ensures { λ r. ⌜ r ≡ doubtsOf (doubtsAfter doubting (self .entries)) ⌝ }
-    {
-        match doubting {
-            Doubting::Keep => self,
-            Doubting::Begin(vpci, vci) => self.begin(vpci, vci),
-            Doubting::End(vpci, vci) => self.end(vpci, vci),
-            Doubting::EndAll => Doubts::none(),
-        }
     }
 }
 

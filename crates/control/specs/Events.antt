@@ -7,7 +7,7 @@ use Prim.Native.Nat.{ℕ}
 use mathlib.Core.Bool.{cond}
 use mathlib.Core.List.{List}
 use lib.ListN.{replicate}
-use Rattle.channels.specs.Doubts.{noDoubts}
+use Rattle.doubts.specs.Doubts.{noDoubts}
 use Rattle.provisioning.specs.Provisioning.{provision}
 use Rattle.calls.specs.Calls.{noSlot, isEmpty}
 use Rattle.first.specs.declared.Found.{Found}

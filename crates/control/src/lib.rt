@@ -8,7 +8,7 @@
 // No event has a `requires`: what is wrong with its input is refused by its number. A reply fills the front of the lent
 // room; octets behind it are unchanged. Assumes nothing.
 use channels::Channel;
-use channels::Doubts;
+use doubts::Doubts;
 use effects::Effect;
 use first::Found;
 use header::Head;

@@ -13,8 +13,8 @@ use mathlib.Core.Bool.{Bool, true, false, not, cond, _&&_}
 use lib.Dec.{eqb}
 use lib.ListN.{getD, set, replicate}
 use Rattle.channels.specs.Some.{someOf}
-use Rattle.channels.specs.declared.Doubting.{Doubting}
-use Rattle.channels.specs.declared.Doubting.the-variants.{Keep, Begin}
+use Rattle.doubts.specs.declared.Doubting.{Doubting}
+use Rattle.doubts.specs.declared.Doubting.the-variants.{Keep, Begin}
 use Rattle.calls.specs.declared.Phase.{Phase}
 use Rattle.calls.specs.declared.Call.{Call}
 use Rattle.calls.specs.declared.Hold.{Hold}

@@ -8,7 +8,7 @@ use mathlib.Core.Bool.{Bool, cond, _||_}
 use lib.Dec.{eqb, ltb}
 use Rattle.channels.specs.Channels.{permanent, knownVpci}
 use Rattle.channels.specs.declared.Pool.{Pool}
-use Rattle.channels.specs.declared.Doubting.the-variants.{End, EndAll}
+use Rattle.doubts.specs.declared.Doubting.the-variants.{End, EndAll}
 use Rattle.calls.specs.Calls.{isLive, holdsPair}
 use Rattle.slots.specs.declared.Slots.{Slots}
 use Rattle.slots.specs.Slots.{gone}

@@ -10,9 +10,9 @@ use lib.ListN.{length}
 use lib.Seq.{getD-set-same}
 use borrow.Author.Tests.{eq-eqb}
 use Rattle.channels.specs.Channels.{isEntry}
-use Rattle.channels.specs.Doubts.{isFull, pairEntry}
 use Rattle.channels.proofs.Cases.{clash}
-use Rattle.channels.proofs.InDoubt.{sunk-among}
+use Rattle.doubts.specs.Doubts.{isFull, pairEntry}
+use Rattle.doubts.proofs.InDoubt.{sunk-among}
 use Rattle.calls.specs.declared.Phase.{Phase}
 use Rattle.calls.specs.declared.Phase.the-variants.{N3, N6, N9, N10, N12}
 use Rattle.calls.specs.declared.Call.{Call}

@@ -14,9 +14,9 @@ use borrow.Author.Tests.{eq-eqb, leb-true, le-leb, le-ltb, not-true}
 use Rattle.channels.specs.Channels.{permitted, permanent, inRange, inRanges, spansVpci, spannedVpci, knownVpci}
 use Rattle.channels.specs.declared.Range.{Range}
 use Rattle.channels.specs.declared.Pool.{Pool}
-use Rattle.channels.specs.declared.Doubting.the-variants.{End}
 use Rattle.channels.proofs.Cases.{by-test, clash, both}
-use Rattle.channels.proofs.InDoubt.{ended-among}
+use Rattle.doubts.specs.declared.Doubting.the-variants.{End}
+use Rattle.doubts.proofs.InDoubt.{ended-among}
 use Rattle.calls.specs.Calls.{isLive, holdsPair}
 use Rattle.slots.specs.Slots.{gone}
 use Rattle.header.specs.declared.Head.{Head}

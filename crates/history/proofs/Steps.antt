@@ -17,13 +17,13 @@ use Rattle.channels.proofs.Lowest as lowest
 use Rattle.slots.proofs.Held.{held-holds}
 use Rattle.channels.specs.Some.{someOf}
 use Rattle.channels.specs.Channels.{among, permitted, permanent, knownVpci}
-use Rattle.channels.specs.Doubts.{doubtRoom}
 use Rattle.channels.specs.declared.Channel.{Channel}
 use Rattle.channels.specs.declared.Channel.the-variants.{None, Pair}
-use Rattle.channels.specs.declared.Doubting.the-variants.{Keep, Begin, End, EndAll}
 use Rattle.channels.proofs.Cases.{by-test, clash, both}
 use Rattle.channels.proofs.Some.{some-at}
-use Rattle.channels.proofs.InDoubt.{sunk-among, ended-among, none-among}
+use Rattle.doubts.specs.Doubts.{doubtRoom}
+use Rattle.doubts.specs.declared.Doubting.the-variants.{Keep, Begin, End, EndAll}
+use Rattle.doubts.proofs.InDoubt.{sunk-among, ended-among, none-among}
 use Rattle.calls.specs.declared.Clearing.{Clearing}
 use Rattle.calls.specs.declared.Phase.{Phase}
 use Rattle.calls.specs.declared.Phase.the-variants.{N3, N6, N9, N10, N12}

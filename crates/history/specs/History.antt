@@ -20,8 +20,8 @@ use lib.Dec.{eqb}
 use Rattle.octets.specs.Octets.{equal}
 use Rattle.channels.specs.Some.{someOf}
 use Rattle.channels.specs.Channels.{among, permitted}
-use Rattle.channels.specs.Doubts.{isFull}
 use Rattle.channels.specs.declared.Channel.the-variants.{Pair}
+use Rattle.doubts.specs.Doubts.{isFull}
 use Rattle.calls.specs.declared.Phase.{Phase}
 use Rattle.calls.specs.declared.Phase.the-variants.{N3, N6, N9, N10, N12}
 use Rattle.calls.specs.declared.Call.{Call}

@@ -13,11 +13,11 @@ use lib.Dec.{eqb, ltb}
 use lib.ListN.{getD}
 use native.Mathlib.Nat.{le-refl}
 use borrow.Author.Tests.{ne-eqb, le-ltb}
-use Rattle.channels.specs.declared.Doubting.the-variants.{Keep}
-use Rattle.channels.specs.Doubts.{doubtsOf, doubtsAfter}
 use Rattle.channels.specs.declared.Channel.{Channel}
 use Rattle.channels.specs.declared.Channel.the-variants.{None, Pair}
 use Rattle.channels.proofs.Cases.{by-test}
+use Rattle.doubts.specs.declared.Doubting.the-variants.{Keep}
+use Rattle.doubts.specs.Doubts.{doubtsOf, doubtsAfter}
 use Rattle.calls.specs.declared.Hold.{Hold}
 use Rattle.calls.specs.declared.Hold.the-variants.{Empty, Live}
 use Rattle.calls.specs.declared.Slot.{Slot}

@@ -5,11 +5,11 @@
 // steps the count. `read_marks` has no `requires`; `mark_one` asks for a count below 208, the other three for at most 104.
 // Assumes nothing.
 use channels::Channel;
-use channels::Doubts;
 use channels::Entry;
 use channels::Held;
 use channels::Pool;
 use channels::Range;
+use doubts::Doubts;
 ghost use mathlib.Core.Path.{_≡_};
 ghost use Prim.Native.Nat.{_≤_, _<_};
 ghost use Rattle.marks.specs.Marking.{pairsOf, offsetIn, markOne, marking, marksOf};

@@ -11,7 +11,7 @@ use mathlib.Core.Bool.{Bool, false, cond}
 use mathlib.Core.List.{List, []}
 use lib.Dec.{eqb}
 use lib.ListN.{length}
-use Rattle.channels.specs.Doubts.{doubtsOf, doubtsAfter}
+use Rattle.doubts.specs.Doubts.{doubtsOf, doubtsAfter}
 use Rattle.replies.specs.Reply.{replyOctets}
 use Rattle.effects.specs.declared.Effect.{Effect}
 use Rattle.effects.specs.Effect.{noFlags}

@@ -16,9 +16,9 @@ use lib.ListN.{length, getD, set, take, drop, length-take}
 use lib.Seq.{getD-drop, getD-set-same, getD-set-other, take-suc-set, take-all}
 use borrow.Author.Tests.{eqb-true, eqb-false}
 use Rattle.channels.proofs.Cases.{by-test}
-use Rattle.channels.specs.declared.Doubts.{Doubts}
 use Rattle.channels.specs.declared.Pool.{Pool}
-use Rattle.channels.specs.Doubts.{doubtsOf}
+use Rattle.doubts.specs.declared.Doubts.{Doubts}
+use Rattle.doubts.specs.Doubts.{doubtsOf}
 use Rattle.provisioning.specs.Provisioning.{numbered, provision}
 use Rattle.calls.specs.declared.Slot.{Slot}
 use Rattle.slots.specs.declared.Slots.{Slots}

@@ -18,7 +18,7 @@ use lib.ListN.{length, getD, drop}
 use Rattle.octets.specs.Octets.{number}
 use Rattle.channels.specs.declared.Entry.{Entry}
 use Rattle.channels.specs.declared.Pool.{Pool}
-use Rattle.channels.specs.Doubts.{doubtRoom, doubtsOf}
+use Rattle.doubts.specs.Doubts.{doubtRoom, doubtsOf}
 use Rattle.calls.specs.declared.Clearing.{Clearing}
 use Rattle.calls.specs.declared.Phase.{Phase}
 use Rattle.calls.specs.declared.Phase.the-variants.{N3, N6, N9, N10, N12}

@@ -9,16 +9,16 @@ use calls::Hold;
 use calls::Phase;
 use calls::Slot;
 use channels::Channel;
-use channels::Doubts;
 use channels::Entry;
 use channels::Pool;
+use doubts::Doubts;
 use provisioning::Provision;
 use slots::Slots;
 use table::Table;
 ghost use mathlib.Core.Path.{_≡_};
 ghost use Prim.Native.Nat.{_+_, _≤_};
 ghost use lib.ListN.{length, getD, take, drop};
-ghost use Rattle.channels.specs.Doubts.{doubtsOf};
+ghost use Rattle.doubts.specs.Doubts.{doubtsOf};
 ghost use Rattle.provisioning.specs.Provisioning.{provision};
 ghost use Rattle.reading.specs.Reading.{twoAt, eightAt, rest, least, listIn, rangeNumbers, pairNumbers, entriesIn, clearingIn, phaseIn, referenceIn, callIn, begins, slotIn, behindSlot, slotsIn, tableWith};
 

@@ -11,7 +11,8 @@ use lib.ListN.{length, getD, drop, drop-of-length-le}
 use lib.Seq.{drop-cons}
 use Rattle.channels.specs.declared.Entry.{Entry}
 use Rattle.channels.specs.Channels.{noEntry}
-use Rattle.channels.specs.Doubts.{isNone, entryBefore, tidy}
+use Rattle.channels.specs.Order.{isNone, entryBefore}
+use Rattle.doubts.specs.Doubts.{tidy}
 
 -- Pairs in doubt that ascend; what is left of the list is `drop i es`.
 

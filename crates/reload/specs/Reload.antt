@@ -15,7 +15,7 @@ use Rattle.channels.specs.declared.Channel.the-variants.{None, Pair}
 use Rattle.channels.specs.declared.Entry.{Entry}
 use Rattle.channels.specs.Some.{someOf}
 use Rattle.channels.specs.Channels.{permitted}
-use Rattle.channels.specs.Doubts.{tidy}
+use Rattle.doubts.specs.Doubts.{tidy}
 use Rattle.provisioning.specs.Provisioning.{allBelow, provision}
 use Rattle.calls.specs.declared.Clearing.{Clearing}
 use Rattle.calls.specs.declared.Phase.{Phase}

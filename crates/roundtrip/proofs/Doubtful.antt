@@ -14,11 +14,12 @@ use lib.ListN.{length, getD}
 use borrow.Author.Tests.{eq-eqb, lt-ltb, le-ltb}
 use Rattle.channels.specs.Some.{someOf}
 use Rattle.channels.specs.Channels.{isEntry, among, permitted, noEntry}
-use Rattle.channels.specs.Doubts.{noChannel, isNone, leads, tidy}
+use Rattle.channels.specs.Order.{noChannel, isNone}
 use Rattle.channels.specs.declared.Channel.{Channel}
 use Rattle.channels.specs.declared.Channel.the-variants.{None, Pair}
 use Rattle.channels.specs.declared.Entry.{Entry}
 use Rattle.channels.proofs.Cases.{by-test, clash, both}
+use Rattle.doubts.specs.Doubts.{leads, tidy}
 use Rattle.provisioning.specs.Provisioning.{entryAt, numbered}
 use Rattle.calls.specs.Calls.{holdsPair}
 use Rattle.table.specs.declared.Table.{Table}

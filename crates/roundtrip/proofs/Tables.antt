@@ -7,7 +7,7 @@ use mathlib.Core.Bool.{true}
 use mathlib.Core.List.{List, _++_}
 use native.Mathlib.Omega.{arith}
 use lib.ListN.{length}
-use Rattle.channels.specs.Doubts.{doubtsOf}
+use Rattle.doubts.specs.Doubts.{doubtsOf}
 use Rattle.provisioning.specs.Provisioning.{provision}
 use Rattle.provisioning.proofs.Accepted.{accepted-lists, ranges-lists}
 use Rattle.channels.specs.declared.Pool.{Pool}

@@ -12,12 +12,12 @@ use mathlib.Core.Logic.{⊎-elim, _≢_}
 use mathlib.Core.Bool.{Bool, false}
 use mathlib.Core.List.{List, map}
 use lib.ListN.{length, getD, set, length-set, length-map}
-use Rattle.channels.specs.Doubts.{isFull}
-use Rattle.channels.specs.declared.Doubting.the-variants.{Keep, Begin, End, EndAll}
-use Rattle.channels.specs.declared.Doubting.{Doubting}
 use Rattle.channels.specs.Some.{someOf}
 use Rattle.channels.specs.declared.Channel.the-variants.{Pair}
 use Rattle.channels.proofs.Cases.{by-test}
+use Rattle.doubts.specs.Doubts.{isFull}
+use Rattle.doubts.specs.declared.Doubting.the-variants.{Keep, Begin, End, EndAll}
+use Rattle.doubts.specs.declared.Doubting.{Doubting}
 use Rattle.calls.specs.declared.Phase.{Phase}
 use Rattle.calls.specs.declared.Call.{Call}
 use Rattle.calls.specs.declared.Hold.the-variants.{Live}

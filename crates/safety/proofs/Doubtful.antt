@@ -12,15 +12,15 @@ use lib.ListN.{length, getD}
 use lib.Seq.{getD-set-same, getD-set-other}
 use borrow.Author.Tests.{eqb-true, not-true}
 use Rattle.channels.specs.Channels.{isEntry, among, permitted, permanent, knownVpci}
-use Rattle.channels.specs.Doubts.{doubtRoom, doubtsOf, pairEntry, sunk, ended, isFull, doubtsAfter, tidy}
 use Rattle.channels.specs.declared.Channel.{Channel}
 use Rattle.channels.specs.declared.Channel.the-variants.{None, Pair}
 use Rattle.channels.specs.declared.Entry.{Entry}
-use Rattle.channels.specs.declared.Doubting.{Doubting}
-use Rattle.channels.specs.declared.Doubting.the-variants.{Keep, Begin, End, EndAll}
 use Rattle.channels.proofs.Cases.{by-test, clash, both}
 use Rattle.channels.proofs.Lowest as lowest
-use Rattle.channels.proofs.InDoubt.{sunk-among, ended-among, none-among, anew, doubts-after-tidy, doubts-after-length}
+use Rattle.doubts.specs.Doubts.{doubtRoom, doubtsOf, pairEntry, sunk, ended, isFull, doubtsAfter, tidy}
+use Rattle.doubts.specs.declared.Doubting.{Doubting}
+use Rattle.doubts.specs.declared.Doubting.the-variants.{Keep, Begin, End, EndAll}
+use Rattle.doubts.proofs.InDoubt.{sunk-among, ended-among, none-among, anew, doubts-after-tidy, doubts-after-length}
 use Rattle.calls.specs.declared.Phase.{Phase}
 use Rattle.calls.specs.declared.Phase.the-variants.{N3, N6, N9, N10, N12}
 use Rattle.calls.specs.declared.Call.{Call}

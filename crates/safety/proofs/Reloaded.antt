@@ -17,8 +17,8 @@ use borrow.Author.Tests.{eqb-true, eqb-false, leb-true, not-true, not-false}
 use Rattle.channels.specs.declared.Entry.{Entry}
 use Rattle.channels.specs.declared.Channel.the-variants.{None, Pair}
 use Rattle.channels.specs.declared.Channel.{Channel}
-use Rattle.channels.specs.Doubts.{doubtRoom, tidy}
 use Rattle.channels.specs.Some.{someOf}
+use Rattle.doubts.specs.Doubts.{doubtRoom, tidy}
 use Rattle.octets.proofs.Equal.{equal-same}
 use Rattle.traffic.specs.Traffic.{member}
 use Rattle.channels.specs.Channels.{permitted, inRanges, isPair, isEntry, among}

@@ -13,12 +13,12 @@ use lib.Dec.{eqb}
 use lib.ListN.{length-replicate}
 use borrow.Author.Tests.{eqb-true, eq-eqb}
 use Rattle.safety.proofs.Doubtful.{DoubtsOf, DoubtsSound, outcome-doubted, doubts-sound}
-use Rattle.channels.proofs.InDoubt.{none-tidy, none-among}
-use Rattle.channels.specs.Doubts.{doubtRoom}
 use Rattle.channels.specs.Channels.{permitted, inRanges, noEntry}
 use Rattle.channels.proofs.Cases.{by-test, clash, both}
 use Rattle.channels.proofs.Some.{some-at}
 use Rattle.channels.proofs.Lowest as lowest
+use Rattle.doubts.proofs.InDoubt.{none-tidy, none-among}
+use Rattle.doubts.specs.Doubts.{doubtRoom}
 use Rattle.provisioning.specs.Provisioning.{provision}
 use Rattle.provisioning.proofs.Accepted.{provision-pair}
 use Rattle.calls.specs.declared.Call.{Call}

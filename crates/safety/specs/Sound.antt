@@ -13,7 +13,7 @@ use mathlib.Core.List.{List, [], _∷_}
 use lib.ListN.{length, getD}
 use Rattle.traffic.specs.Traffic.{member}
 use Rattle.channels.specs.Channels.{permitted}
-use Rattle.channels.specs.Doubts.{doubtRoom, tidy}
+use Rattle.doubts.specs.Doubts.{doubtRoom, tidy}
 use Rattle.calls.specs.declared.Clearing.{Clearing}
 use Rattle.calls.specs.declared.Phase.{Phase}
 use Rattle.calls.specs.declared.Phase.the-variants.{N3, N6, N9, N10, N12}

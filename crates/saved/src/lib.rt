@@ -3,8 +3,8 @@
 //   put_form     the form at a place of a room
 //   save         the form at the front of a room
 // `put_form` asks for room; nothing else public has a `requires`. Assumes nothing.
-use channels::Doubts;
 use channels::Pool;
+use doubts::Doubts;
 use slots::Slots;
 use table::Table;
 ghost use mathlib.Core.Path.{_≡_};

@@ -3,10 +3,10 @@
 //   lowest_free            the pair alone
 // Nothing here has a `requires`. Assumes nothing.
 use channels::Channel;
-use channels::Doubts;
 use channels::Held;
 use channels::Pool;
 use channels::Range;
+use doubts::Doubts;
 use marks::read_marks;
 ghost use mathlib.Core.Path.{_≡_};
 ghost use Prim.Native.Nat.{_≤_};

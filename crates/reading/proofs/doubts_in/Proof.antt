@@ -4,7 +4,7 @@ use native.Mathlib.Omega.{arith}
 use Prim.Native.Nat.{_-_, _≤_}
 use mathlib.Core.Path.{_≡_, ap, _∙_}
 use lib.ListN.{length, take}
-use Rattle.channels.specs.Doubts.{doubtsOf}
+use Rattle.doubts.specs.Doubts.{doubtsOf}
 use Rattle.provisioning.specs.Provisioning.{entryAt}
 use Rattle.reading.specs.Reading.{entriesIn}
 use Rattle.reading.proofs.Walk.{counted, Filled, filled-none, filled-more, filled-all}

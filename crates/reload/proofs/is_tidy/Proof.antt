@@ -5,7 +5,7 @@ use native.Mathlib.Omega.{arith}
 use mathlib.Core.Path.{_≡_, refl, sym, _∙_}
 use lib.ListN.{length, drop, length-map}
 use borrow.Author.Tests.{not-true, not-false}
-use Rattle.channels.specs.Doubts.{tidy}
+use Rattle.doubts.specs.Doubts.{tidy}
 use Rattle.reload.proofs.Walk.{tidy-here, tidy-not-here, tidy-end}
 use borrow.Author.Needs.{needs}
 use Rattle.reload.proofs.is_tidy.Statement.{statement}

@@ -6,12 +6,12 @@ use native.Mathlib.Omega.{arith}
 use mathlib.Core.Path.{_≡_, refl, sym, ap, _∙_}
 use mathlib.Core.Bool.{not}
 use lib.ListN.{length, drop, length-map}
 use Rattle.channels.specs.Some.{someOf}
 use Rattle.channels.specs.Channels.{noEntry}
-use Rattle.channels.specs.Doubts.{isNone}
+use Rattle.channels.specs.Order.{isNone}
 use Rattle.channels.proofs.Some.{some-here, some-not-here, some-nowhere}
-use Rattle.channels.proofs.Doubts.is_full.Statement.{statement}
-use Rattle.channels.proofs.Doubts.is_full.Tie as tie
+use Rattle.doubts.proofs.Doubts.is_full.Statement.{statement}
+use Rattle.doubts.proofs.Doubts.is_full.Tie as tie
 
 abbrev Inv-loop : tie.InvT-loop
 Inv-loop self i₀ i = (i ≤ 64) × (length (self .entries) ≡ 64) × (someOf isNone (self .entries) ≡ someOf isNone (drop i (self .entries)))

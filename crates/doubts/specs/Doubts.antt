@@ -1,7 +1,5 @@
 -- Pairs in doubt (document 02, R-2): "At most 64 pairs are in doubt". They stand ascending, and behind them entries without a pair.
 --   doubtRoom                 how many there can be
---   isNone                    if an entry has no pair
---   entryBefore               the order of entries by VPCI and then VCI: no pair comes behind every pair
 --   sunk                      an entry put in at its place
 --   closedUp, ended           an entry taken out by its number, a pair taken out
 --   isFull                    if there is no room for one more
@@ -10,37 +8,21 @@
 --   tidy                      ascending, and no pair behind an entry without one
 -- Lists are of any length. Assumes nothing.
 use Prim.Native.Nat.{ℕ, zero, suc}
-use mathlib.Core.Bool.{Bool, true, false, cond, not, _&&_, _||_}
+use mathlib.Core.Bool.{Bool, true, cond, not, _&&_, _||_}
 use mathlib.Core.List.{List, [], _∷_, _++_}
-use lib.Dec.{eqb, ltb}
 use lib.ListN.{replicate}
 use Rattle.channels.specs.Some.{someOf}
 use Rattle.channels.specs.Channels.{isEntry, noEntry}
-use Rattle.channels.specs.declared.Channel.{Channel}
-use Rattle.channels.specs.declared.Channel.the-variants.{None, Pair}
+use Rattle.channels.specs.declared.Channel.the-variants.{Pair}
 use Rattle.channels.specs.declared.Entry.{Entry}
-use Rattle.channels.specs.declared.Doubts.{Doubts}
-use Rattle.channels.specs.declared.Doubting.{Doubting}
-use Rattle.channels.specs.declared.Doubting.the-variants.{Keep, Begin, End, EndAll}
+use Rattle.channels.specs.Order.{isNone, entryBefore}
+use Rattle.doubts.specs.declared.Doubts.{Doubts}
+use Rattle.doubts.specs.declared.Doubting.{Doubting}
+use Rattle.doubts.specs.declared.Doubting.the-variants.{Keep, Begin, End, EndAll}
 
 -- "At most 64 pairs are in doubt"
 abbrev pub doubtRoom : ℕ
 doubtRoom = 64
-
-abbrev pub noChannel : Channel → Bool
-noChannel None = true
-noChannel (Pair p v) = false
-
-abbrev pub isNone : Entry → Bool
-isNone e = noChannel (e .channel)
-
-abbrev pub channelBefore : Channel → Channel → Bool
-channelBefore None d = false
-channelBefore (Pair p v) None = true
-channelBefore (Pair p v) (Pair q w) = ltb p q || (eqb p q && ltb v w)
-
-abbrev pub entryBefore : Entry → Entry → Bool
-entryBefore a b = channelBefore (a .channel) (b .channel)
 
 -- an entry put in at its place: those behind it go one further, and the last goes
 abbrev pub sunk : Entry → List Entry → List Entry

@@ -16,9 +16,10 @@ use native.Mathlib.Omega.{arith}
 use native.Mathlib.Numerals.{add-one}
 use lib.ListN.{length, take, drop, getD, set, drop-of-length-le, take-append-drop, length-take}
 use lib.Seq.{drop-cons, take-suc, take-all, append-snoc, take-suc-set, take-set-le, drop-set-lt, getD-set-same, lt-length-set, length-take-le}
 use Rattle.channels.specs.Channels.{isEntry, noEntry}
-use Rattle.channels.specs.Doubts.{entryBefore, sunk, closedUp, ended}
+use Rattle.channels.specs.Order.{entryBefore}
 use Rattle.channels.specs.declared.Entry.{Entry}
+use Rattle.doubts.specs.Doubts.{sunk, closedUp, ended}
 
 module _ (f : List Entry → List Entry) (all es : List Entry) (i : ℕ) where
   pub one-more : i < length es → f (getD es i noEntry ∷ drop (suc i) es) ≡ getD es i noEntry ∷ f (drop (suc i) es)

@@ -6,11 +6,11 @@ use native.Mathlib.Omega.{arith}
 use mathlib.Core.Path.{_≡_, ap}
 use mathlib.Core.List.{_++_}
 use lib.ListN.{length, take, drop, length-map}
 use Rattle.channels.specs.Channels.{noEntry}
-use Rattle.channels.specs.Doubts.{closedUp, doubtsOf}
-use Rattle.channels.proofs.Places.{closed-all, closed-up, closed-end}
-use Rattle.channels.proofs.Doubts.close_up.Statement.{statement}
-use Rattle.channels.proofs.Doubts.close_up.Tie as tie
+use Rattle.doubts.specs.Doubts.{closedUp, doubtsOf}
+use Rattle.doubts.proofs.Places.{closed-all, closed-up, closed-end}
+use Rattle.doubts.proofs.Doubts.close_up.Statement.{statement}
+use Rattle.doubts.proofs.Doubts.close_up.Tie as tie
 
 abbrev Inv-loop : tie.InvT-loop
 Inv-loop at entries₀ carried₀ i₀ entries carried i =

@@ -1,8 +1,8 @@
 -- `Doubts::after` meets its contract: by what is done, and what its function ensures.
 -- Assumes nothing.
 use borrow.Author.Needs.{needs}
-use Rattle.channels.proofs.Doubts.after.Statement.{statement}
-use Rattle.channels.proofs.Doubts.after.Tie as tie
+use Rattle.doubts.proofs.Doubts.after.Statement.{statement}
+use Rattle.doubts.proofs.Doubts.after.Tie as tie
 
 enum-told : tie.Need-enum-told
 enum-told c = search needs

@@ -6,10 +6,10 @@ use native.Mathlib.Omega.{arith}
 use mathlib.Core.Path.{_≡_, refl, sym, ap, _∙_}
 use mathlib.Core.List.{_++_}
 use lib.ListN.{length, take, drop, length-map}
-use Rattle.channels.specs.Doubts.{pairEntry, sunk, doubtsOf}
-use Rattle.channels.proofs.Places.{one-more, sunk-here, sunk-end}
-use Rattle.channels.proofs.Doubts.begin.Statement.{statement}
-use Rattle.channels.proofs.Doubts.begin.Tie as tie
+use Rattle.doubts.specs.Doubts.{pairEntry, sunk, doubtsOf}
+use Rattle.doubts.proofs.Places.{one-more, sunk-here, sunk-end}
+use Rattle.doubts.proofs.Doubts.begin.Statement.{statement}
+use Rattle.doubts.proofs.Doubts.begin.Tie as tie
 
 abbrev Inv-loop : tie.InvT-loop
 Inv-loop vpci vci entries₀ carried₀ i₀ entries carried i =

@@ -15,14 +15,15 @@ use native.Mathlib.Omega.{arith}
 use lib.Dec.{eqb}
 use lib.ListN.{length, replicate, length-append, length-replicate}
 use borrow.Author.Tests.{not-true, not-false}
 use Rattle.channels.specs.Some.{someOf}
 use Rattle.channels.specs.Channels.{isEntry, among, noEntry}
-use Rattle.channels.specs.Doubts.{isNone, entryBefore, pairEntry, sunk, ended, isFull, leads, tidy, doubtRoom, doubtsAfter}
+use Rattle.channels.specs.Order.{isNone, entryBefore}
 use Rattle.channels.specs.declared.Entry.{Entry}
-use Rattle.channels.specs.declared.Doubting.{Doubting}
-use Rattle.channels.specs.declared.Doubting.the-variants.{Keep, Begin, End, EndAll}
 use Rattle.channels.proofs.Cases.{by-test, clash, both}
 use Rattle.channels.proofs.Order.{before-pair, none-behind, none-pair, not-before, behind-chain, behind-pair, not-itself, never-again, named-pair, same-pair}
+use Rattle.doubts.specs.Doubts.{pairEntry, sunk, ended, isFull, leads, tidy, doubtRoom, doubtsAfter}
+use Rattle.doubts.specs.declared.Doubting.{Doubting}
+use Rattle.doubts.specs.declared.Doubting.the-variants.{Keep, Begin, End, EndAll}
 
 -- as many entries as before
 pub length-sunk : (c : Entry) (es : List Entry) → length (sunk c es) ≡ length es

@@ -6,10 +6,10 @@ use native.Mathlib.Omega.{arith}
 use mathlib.Core.Path.{_≡_, refl, sym, ap, _∙_}
 use mathlib.Core.List.{_++_}
 use lib.ListN.{length, take, drop, length-map}
-use Rattle.channels.specs.Doubts.{ended, doubtsOf}
-use Rattle.channels.proofs.Places.{one-more, ended-here, ended-end}
-use Rattle.channels.proofs.Doubts.end.Statement.{statement}
-use Rattle.channels.proofs.Doubts.end.Tie as tie
+use Rattle.doubts.specs.Doubts.{ended, doubtsOf}
+use Rattle.doubts.proofs.Places.{one-more, ended-here, ended-end}
+use Rattle.doubts.proofs.Doubts.end.Statement.{statement}
+use Rattle.doubts.proofs.Doubts.end.Tie as tie
 
 abbrev Inv-loop : tie.InvT-loop
 Inv-loop vpci vci self i₀ i =
