@@ -6,14 +6,14 @@ ghost use lib.ListN.{length};
 ghost use Rattle.exchange.specs.Chunk.{Held};
 
 // The octets up to `whole` are whole lines, those up to `end` were read. `open`: the input may go on.
-pub struct Chunk {
-    pub whole: usize,
-    pub end: usize,
-    pub open: bool,
+pub(crate) struct Chunk {
+    pub(crate) whole: usize,
+    pub(crate) end: usize,
+    pub(crate) open: bool,
 }
 
 impl Chunk {
-    pub fn none() -> Chunk
+    pub(crate) fn none() -> Chunk
         ensures { λ r. ⌜ Held r ⌝ }
     {
         Chunk {
@@ -72,7 +72,7 @@ fn behind_lines(input: &[u8; 131072], from: usize, end: usize) -> usize
 }
 
 // Reads on behind what is left of the chunk before. The end of the input ends its last line.
-pub fn next(input: &mut [u8; 131072], chunk: Chunk) -> Chunk
+pub(crate) fn next(input: &mut [u8; 131072], chunk: Chunk) -> Chunk
     requires { ⌜ Held chunk ⌝ }
     ensures { λ r. ⌜ Held r ⌝ }
 {

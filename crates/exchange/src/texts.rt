@@ -7,14 +7,14 @@ ghost use Prim.Native.Nat.{_≤_};
 ghost use lib.ListN.{length};
 
 // Writes out what is in use of the buffer, and answers if it could.
-pub fn flush(out: &[u8], used: usize) -> bool
+pub(crate) fn flush(out: &[u8], used: usize) -> bool
     requires { ⌜ used ≤ length (now out) ⌝ }
 {
     io::write_all(1, &out[0..used])
 }
 
 // Makes room for a line: writes the buffer out if it is nearly full.
-pub fn cleared(out: &[u8], used: usize) -> usize
+pub(crate) fn cleared(out: &[u8], used: usize) -> usize
     requires { ⌜ used ≤ length (now out) ⌝ }
     ensures { λ r. ⌜ r ≤ 32768 ⌝ }
 {
@@ -46,7 +46,7 @@ fn is_skipped(line: &[u8]) -> bool {
     line[0] == b'#'
 }
 
-pub fn put_bad_line(out: &mut [u8; 65536], at: usize, line: &[u8], explains: bool) -> usize
+pub(crate) fn put_bad_line(out: &mut [u8; 65536], at: usize, line: &[u8], explains: bool) -> usize
     requires { ⌜ at ≤ 65536 ⌝ }
     ensures { λ r. ⌜ r ≤ 65536 ⌝ }
 {
@@ -62,7 +62,7 @@ pub fn put_bad_line(out: &mut [u8; 65536], at: usize, line: &[u8], explains: boo
     )
 }
 
-pub fn put_no_table(out: &mut [u8; 65536], at: usize, explains: bool) -> usize
+pub(crate) fn put_no_table(out: &mut [u8; 65536], at: usize, explains: bool) -> usize
     requires { ⌜ at ≤ 65536 ⌝ }
     ensures { λ r. ⌜ r ≤ 65536 ⌝ }
 {
@@ -75,7 +75,7 @@ pub fn put_no_table(out: &mut [u8; 65536], at: usize, explains: bool) -> usize
     )
 }
 
-pub fn put_touched(out: &mut [u8; 65536], at: usize, explains: bool) -> usize
+pub(crate) fn put_touched(out: &mut [u8; 65536], at: usize, explains: bool) -> usize
     requires { ⌜ at ≤ 65536 ⌝ }
     ensures { λ r. ⌜ r ≤ 65536 ⌝ }
 {
@@ -89,7 +89,7 @@ pub fn put_touched(out: &mut [u8; 65536], at: usize, explains: bool) -> usize
 }
 
 // What a start or a reload answers, with a note for each case.
-pub fn put_opened(
+pub(crate) fn put_opened(
     out: &mut [u8; 65536],
     at: usize,
     refusal: u8,
@@ -116,7 +116,7 @@ fn put_count(out: &mut [u8; 65536], at: usize, n: usize) -> usize
     octets::put(out, second, b" octets\n")
 }
 
-pub fn put_saved(
+pub(crate) fn put_saved(
     out: &mut [u8; 65536],
     at: usize,
     refusal: u8,

@@ -49,7 +49,7 @@ abbrev pub short : ℕ → ℕ → Element
 short ident octet = record { ident = ident; action = 0x80; contents = octet ∷ [] }
 
 abbrev pub callState : ℕ → Element
-callState s = record { ident = 0x14; action = 0x80; contents = s ∷ [] }
+callState s = short 0x14 s
 
 -- "5A Connection identifier: 5; first 88, then VPCI, VCI."
 abbrev pub connection : ℕ → ℕ → Element
@@ -57,7 +57,7 @@ connection p v = record { ident = 0x5A; action = 0x80; contents = 0x88 ∷ high 
 
 -- "79 Restart indicator: 1; 80 (indicated channel) or 82 (all)."
 abbrev pub restart : ℕ → Element
-restart class = record { ident = 0x79; action = 0x80; contents = class ∷ [] }
+restart class = short 0x79 class
 
 -- "Types in hex: CALL PROCEEDING 02, SETUP 05, CONNECT 07, CONNECT ACKNOWLEDGE 0F, RESTART 46, RELEASE 4D,
 -- RESTART ACKNOWLEDGE 4E, RELEASE COMPLETE 5A, STATUS ENQUIRY 75, STATUS 7D." (0 where there is no reply)
