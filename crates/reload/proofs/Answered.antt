@@ -17,7 +17,8 @@ use Rattle.refusals.specs.Refusals.{largestReading}
 use Rattle.control.specs.Events.{startOf}
 use Rattle.saved.specs.Form.{formOf}
 use Rattle.reading.specs.Reading.{rangeNumbers, pairNumbers, tableWith, tableIn}
-use Rattle.reload.specs.Reload.{slotKept, doubtsKept, reloadIn}
+use Rattle.kept.specs.Kept.{slotKept, doubtsKept}
+use Rattle.reload.specs.Reload.{reloadIn}
 
 pub with-own-pool : (count : ℕ) (f : List ℕ) (p : Provision) (t : Table) → p ≡ provision (rangeNumbers f) (pairNumbers f) → t ≡ tableWith (p .pool) count f
     → t ≡ tableIn count f

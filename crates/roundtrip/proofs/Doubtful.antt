@@ -23,7 +23,7 @@ use Rattle.doubts.specs.Doubts.{leads, tidy}
 use Rattle.provisioning.specs.Provisioning.{entryAt, numbered}
 use Rattle.calls.specs.Calls.{holdsPair}
 use Rattle.table.specs.declared.Table.{Table}
-use Rattle.reload.specs.Reload.{channelLost, isLost, doubtsKept}
+use Rattle.kept.specs.Kept.{channelLost, isLost, doubtsKept}
 use Rattle.safety.specs.Sound.{Sound}
 use Rattle.safety.proofs.Tables.{some-held}
 use Rattle.roundtrip.proofs.Lists.{numbered-shift, entry-shift}

@@ -24,7 +24,7 @@ use Rattle.first.specs.declared.Found.the-variants.{Nothing, At}
 use Rattle.first.specs.First.{place}
 use Rattle.first.proofs.First.{placed, unplaced}
 use Rattle.table.specs.declared.Table.{Table}
-use Rattle.reload.specs.Reload.{phaseKept, isAt, callKept, holdKept, slotKept}
+use Rattle.kept.specs.Kept.{phaseKept, isAt, callKept, holdKept, slotKept}
 use Rattle.safety.specs.Tables.{slotAt, HasCall}
 use Rattle.safety.specs.Sound.{PhaseSound, in-N3, in-N6, in-N9, in-N10, by-host, by-timer, Sound}
 use Rattle.safety.proofs.Cases.{beq-same}

@@ -32,7 +32,8 @@ use Rattle.control.specs.Events.{startOf}
 use Rattle.control.specs.Happens.{Event, happens, after}
 use Rattle.saved.specs.Form.{formOf}
 use Rattle.reading.specs.Reading.{rangeNumbers, pairNumbers, tableIn}
-use Rattle.reload.specs.Reload.{slotKept, isForm, reloadIn, reloadOf, doubtsKept}
+use Rattle.kept.specs.Kept.{slotKept, doubtsKept}
+use Rattle.reload.specs.Reload.{isForm, reloadIn, reloadOf}
 use Rattle.reload.specs.Reached.{Beginning, start, reload, begun, Reached}
 use Rattle.safety.specs.Tables.{slotAt}
 use Rattle.safety.specs.FixedAnswers.{labelOf, readingOf, roomOf}

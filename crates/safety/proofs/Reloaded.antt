@@ -39,7 +39,8 @@ use Rattle.table.specs.declared.Table.{Table}
 use Rattle.refusals.specs.Refusals.{largestReading, hostCauses}
 use Rattle.saved.specs.Form.{formOf}
 use Rattle.reading.specs.Reading.{rangeNumbers, pairNumbers, rest, behindSlot, slotsIn, tableIn, doubtNumbers}
-use Rattle.reload.specs.Reload.{phaseKept, isAt, callKept, slotKept, isForm, reloadIn, reloadOf, channelLost, isLost, doubtsKept}
+use Rattle.kept.specs.Kept.{phaseKept, isAt, callKept, slotKept, channelLost, isLost, doubtsKept}
+use Rattle.reload.specs.Reload.{isForm, reloadIn, reloadOf}
 use Rattle.safety.specs.Tables.{HasSlots, HasCall}
 use Rattle.safety.specs.Sound.{PhaseSound, in-N3, in-N6, in-N9, in-N10, by-host, by-timer, Sound}
 use Rattle.safety.proofs.Cases.{neither, one-place}

@@ -1,4 +1,4 @@
--- `reload::is_some_lost` meets its contract. The loop's invariant: some entry is lost if and only if one of those left is.
+-- `kept::is_some_lost` meets its contract. The loop's invariant: some entry is lost if and only if one of those left is.
 -- Assumes nothing.
 use Prim.Native.Nat.{_≤_, _-_}
 use native.Mathlib.Omega.{arith}
@@ -7,10 +7,10 @@ use lib.ListN.{length, drop, length-map}
 use Rattle.channels.specs.Some.{someOf}
 use Rattle.channels.specs.Channels.{noEntry}
 use Rattle.channels.proofs.Some.{some-here, some-not-here, some-nowhere}
-use Rattle.reload.specs.Reload.{isLost}
+use Rattle.kept.specs.Kept.{isLost}
 use borrow.Author.Needs.{needs}
-use Rattle.reload.proofs.is_some_lost.Statement.{statement}
-use Rattle.reload.proofs.is_some_lost.Tie as tie
+use Rattle.kept.proofs.is_some_lost.Statement.{statement}
+use Rattle.kept.proofs.is_some_lost.Tie as tie
 
 abbrev Inv-loop : tie.InvT-loop
 Inv-loop table doubts i₀ i =

@@ -1,8 +1,8 @@
--- `reload::is_at` meets its contract: by what was found.
+-- `kept::is_at` meets its contract: by what was found.
 -- Assumes nothing.
 use borrow.Author.Needs.{needs}
-use Rattle.reload.proofs.is_at.Statement.{statement}
-use Rattle.reload.proofs.is_at.Tie as tie
+use Rattle.kept.proofs.is_at.Statement.{statement}
+use Rattle.kept.proofs.is_at.Tie as tie
 
 enum-told : tie.Need-enum-told
 enum-told c = search needs

@@ -1,10 +1,10 @@
--- `reload::is_call_kept` meets its contract: by its tests.
+-- `kept::is_call_kept` meets its contract: by its tests.
 -- Assumes nothing.
 use mathlib.Core.Path.{sym, _∙_}
 use borrow.Author.Tests.{eq-eqb, ne-eqb, not-true, not-false}
 use borrow.Author.Needs.{needs}
-use Rattle.reload.proofs.is_call_kept.Statement.{statement}
-use Rattle.reload.proofs.is_call_kept.Tie as tie
+use Rattle.kept.proofs.is_call_kept.Statement.{statement}
+use Rattle.kept.proofs.is_call_kept.Tie as tie
 
 returns : tie.Need-returns
 returns c = rw (eq-eqb _ _ (c .if1 .taken))

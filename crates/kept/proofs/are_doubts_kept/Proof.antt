@@ -1,11 +1,11 @@
--- `reload::are_doubts_kept` meets its contract: by its test.
+-- `kept::are_doubts_kept` meets its contract: by its test.
 -- Assumes nothing.
 use mathlib.Core.Path.{sym, ap, _∙_}
 use mathlib.Core.Bool.{not}
 use borrow.Author.Tests.{not-true, not-false}
 use borrow.Author.Needs.{needs}
-use Rattle.reload.proofs.are_doubts_kept.Statement.{statement}
-use Rattle.reload.proofs.are_doubts_kept.Tie as tie
+use Rattle.kept.proofs.are_doubts_kept.Statement.{statement}
+use Rattle.kept.proofs.are_doubts_kept.Tie as tie
 
 is-tidy-requires : tie.Need-is-tidy-requires
 is-tidy-requires c κs = search needs

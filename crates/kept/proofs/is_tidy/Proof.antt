@@ -1,4 +1,4 @@
--- `reload::is_tidy` meets its contract. The loop's invariant: the entries ascend if and only if those left do.
+-- `kept::is_tidy` meets its contract. The loop's invariant: the entries ascend if and only if those left do.
 -- Assumes nothing.
 use Prim.Native.Nat.{_≤_, _-_}
 use native.Mathlib.Omega.{arith}
@@ -6,10 +6,10 @@ use mathlib.Core.Path.{_≡_, refl, sym, _∙_}
 use lib.ListN.{length, drop, length-map}
 use borrow.Author.Tests.{not-true, not-false}
 use Rattle.doubts.specs.Doubts.{tidy}
-use Rattle.reload.proofs.Walk.{tidy-here, tidy-not-here, tidy-end}
+use Rattle.kept.proofs.Walk.{tidy-here, tidy-not-here, tidy-end}
 use borrow.Author.Needs.{needs}
-use Rattle.reload.proofs.is_tidy.Statement.{statement}
-use Rattle.reload.proofs.is_tidy.Tie as tie
+use Rattle.kept.proofs.is_tidy.Statement.{statement}
+use Rattle.kept.proofs.is_tidy.Tie as tie
 
 abbrev Inv-loop : tie.InvT-loop
 Inv-loop doubts i₀ i = (i ≤ 63) × (length (doubts .entries) ≡ 64) × (tidy (doubts .entries) ≡ tidy (drop i (doubts .entries)))

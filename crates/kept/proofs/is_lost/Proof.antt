@@ -1,4 +1,4 @@
--- `reload::is_lost` meets its contract: by the cases of the channel; a pair that some slot holds is among those held.
+-- `kept::is_lost` meets its contract: by the cases of the channel; a pair that some slot holds is among those held.
 -- Assumes nothing.
 use mathlib.Core.Path.{sym, ap, _∙_}
 use borrow.Author.Tests.{not-true, not-false}
@@ -6,8 +6,8 @@ use Rattle.channels.specs.declared.Held.{Held}
 use Rattle.channels.specs.Channels.{among}
 use Rattle.slots.proofs.Held.{held-holds}
 use borrow.Author.Needs.{needs}
-use Rattle.reload.proofs.is_lost.Statement.{statement}
-use Rattle.reload.proofs.is_lost.Tie as tie
+use Rattle.kept.proofs.is_lost.Statement.{statement}
+use Rattle.kept.proofs.is_lost.Tie as tie
 
 enum-told : tie.Need-enum-told
 enum-told c = search needs

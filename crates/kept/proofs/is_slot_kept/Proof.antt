@@ -1,8 +1,8 @@
--- `reload::is_slot_kept` meets its contract: by what the slot holds.
+-- `kept::is_slot_kept` meets its contract: by what the slot holds.
 -- Assumes nothing.
 use borrow.Author.Needs.{needs}
-use Rattle.reload.proofs.is_slot_kept.Statement.{statement}
-use Rattle.reload.proofs.is_slot_kept.Tie as tie
+use Rattle.kept.proofs.is_slot_kept.Statement.{statement}
+use Rattle.kept.proofs.is_slot_kept.Tie as tie
 
 slot-at-requires : tie.Need-slot-at-requires
 slot-at-requires c κs = search needs

@@ -1,9 +1,9 @@
--- `reload::is_clearing_kept` meets its contract: by its tests.
+-- `kept::is_clearing_kept` meets its contract: by its tests.
 -- Assumes nothing.
 use borrow.Author.Tests.{lt-leb, le-leb}
 use borrow.Author.Needs.{needs}
-use Rattle.reload.proofs.is_clearing_kept.Statement.{statement}
-use Rattle.reload.proofs.is_clearing_kept.Tie as tie
+use Rattle.kept.proofs.is_clearing_kept.Statement.{statement}
+use Rattle.kept.proofs.is_clearing_kept.Tie as tie
 
 add-if1 : tie.Need-add-if1
 add-if1 c = search needs

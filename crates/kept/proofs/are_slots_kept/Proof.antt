@@ -1,4 +1,4 @@
--- `reload::are_slots_kept` meets its contract. The loop's invariant: the slots passed are kept.
+-- `kept::are_slots_kept` meets its contract. The loop's invariant: the slots passed are kept.
 -- Assumes nothing.
 use native.Mathlib.Omega.{arith}
 use Prim.Native.Nat.{_-_, _≤_}
@@ -7,10 +7,10 @@ use mathlib.Core.Bool.{true}
 use borrow.Author.Tests.{not-true, not-false}
 use Rattle.provisioning.specs.Provisioning.{allBelow}
 use Rattle.provisioning.proofs.Below.{below-more, not-below}
-use Rattle.reload.specs.Reload.{slotKept}
+use Rattle.kept.specs.Kept.{slotKept}
 use borrow.Author.Needs.{needs}
-use Rattle.reload.proofs.are_slots_kept.Statement.{statement}
-use Rattle.reload.proofs.are_slots_kept.Tie as tie
+use Rattle.kept.proofs.are_slots_kept.Statement.{statement}
+use Rattle.kept.proofs.are_slots_kept.Tie as tie
 
 abbrev Inv-loop : tie.InvT-loop
 Inv-loop table i₀ i = (i ≤ 32) × (table .last ≤ 4000000000000) × (allBelow (slotKept table) i ≡ true)

@@ -1,8 +1,8 @@
--- `reload::is_phase_kept` meets its contract: by the state.
+-- `kept::is_phase_kept` meets its contract: by the state.
 -- Assumes nothing.
 use borrow.Author.Needs.{needs}
-use Rattle.reload.proofs.is_phase_kept.Statement.{statement}
-use Rattle.reload.proofs.is_phase_kept.Tie as tie
+use Rattle.kept.proofs.is_phase_kept.Statement.{statement}
+use Rattle.kept.proofs.is_phase_kept.Tie as tie
 
 enum-told : tie.Need-enum-told
 enum-told c = search needs

@@ -1,9 +1,9 @@
--- `reload::is_followed` meets its contract: by its test.
+-- `kept::is_followed` meets its contract: by its test.
 -- Assumes nothing.
 use mathlib.Core.Path.{sym, _∙_}
 use borrow.Author.Needs.{needs}
-use Rattle.reload.proofs.is_followed.Statement.{statement}
-use Rattle.reload.proofs.is_followed.Tie as tie
+use Rattle.kept.proofs.is_followed.Statement.{statement}
+use Rattle.kept.proofs.is_followed.Tie as tie
 
 is-none-requires : tie.Need-is-none-requires
 is-none-requires c κs = search needs
