@@ -18,6 +18,8 @@
 
 mod notation;
 
+pub use notation::expand;
+
 use std::collections::HashMap;
 
 /// An event line and its answer.

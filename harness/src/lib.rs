@@ -15,4 +15,5 @@ pub mod line;
 pub mod messages;
 mod random;
 pub mod rows;
+pub mod trace;
 pub mod types;
