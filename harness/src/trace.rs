@@ -42,7 +42,7 @@ pub enum Said {
 /// events, and lines for people are left out.
 pub fn steps(script: &str, answers: &str) -> Result<Vec<Step>, String> {
     let is_said = |line: &&str| !line.is_empty() && !line.starts_with('#');
-    let events: Vec<&str> = script.lines().filter(is_said).collect();
+    let events: Vec<&str> = script.split('\n').filter(is_said).collect();
     let answers: Vec<&str> = answers.lines().filter(is_said).collect();
     if events.len() != answers.len() {
         return Err(format!(

@@ -39,6 +39,13 @@ fn a_capture_gives_its_script_back() {
 }
 
 #[test]
+fn a_line_that_ends_in_a_carriage_return_is_no_event() {
+    let script = "start 3 0 32 33 0\ntick 1 0 1024\r\n";
+    let steps = steps(script, "0 - 0 - 0\nbad line\n").expect("a script and its answers");
+    assert_eq!(steps.len(), 1);
+}
+
+#[test]
 fn so_does_one_of_a_generated_script() {
     let mut generator = Generator::new(3);
     let lines: Vec<String> = (0..5_000)

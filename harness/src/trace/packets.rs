@@ -188,34 +188,41 @@ fn payload(
     time: u64,
     from_user: Option<bool>,
 ) -> Result<Option<Packet>, String> {
-    let (octets, tagged) = match kind {
-        UPPER_PDU => match untag(octets)? {
-            Some(found) => found,
-            None => return Ok(None),
-        },
-        kind if USER_TYPES.contains(&kind) => (octets, None),
+    let found = match kind {
+        UPPER_PDU => untag(octets)?,
+        kind if USER_TYPES.contains(&kind) => Some(Untagged {
+            octets,
+            from_user: None,
+        }),
         kind => return Err(format!("link type {kind} is not read")),
     };
-    Ok(Some(Packet {
+    Ok(found.map(|found| Packet {
         time,
-        from_user: from_user.or(tagged).unwrap_or(true),
-        octets: octets.to_vec(),
+        from_user: from_user.or(found.from_user).unwrap_or(true),
+        octets: found.octets.to_vec(),
         comments: Vec::new(),
     }))
 }
 
-/// The octets behind the tags of an upper PDU of Q.2931, and the direction if
-/// a tag says it.
-fn untag(octets: &[u8]) -> Result<Option<(&[u8], Option<bool>)>, String> {
+/// What stands behind the tags of an upper PDU, and the direction if a tag
+/// says it.
+struct Untagged<'a> {
+    octets: &'a [u8],
+    from_user: Option<bool>,
+}
+
+/// None where the tags name another protocol than Q.2931.
+fn untag(octets: &[u8]) -> Result<Option<Untagged<'_>>, String> {
     let order = Order { is_little: false };
     let (mut is_ours, mut from_user) = (false, None);
-    let mut rest = octets;
+    let mut octets = octets;
     loop {
-        let (code, length) = (order.short(rest, 0)?, order.short(rest, 2)?);
-        let value = rest.get(4..4 + usize::from(length)).ok_or(CUT)?;
-        rest = &rest[4 + usize::from(length)..];
+        let (code, length) = (order.short(octets, 0)?, order.short(octets, 2)?);
+        let end = 4 + usize::from(length);
+        let value = octets.get(4..end).ok_or(CUT)?;
+        octets = &octets[end..];
         match code {
-            0 => return Ok(is_ours.then_some((rest, from_user))),
+            0 => return Ok(is_ours.then_some(Untagged { octets, from_user })),
             DISSECTOR => is_ours = Q2931.starts_with(value) && value.starts_with(&Q2931[..5]),
             DIRECTION if value.len() == 4 => from_user = Some(value[3] == 1),
             _ => {}
