@@ -28,6 +28,8 @@ pub type Exchanged = (String, String);
 #[derive(Clone, Debug, Default, PartialEq, Eq)]
 pub struct Case {
     pub name: String,
+    /// The file that it stands in.
+    pub file: String,
     pub purpose: String,
     pub paper: String,
     pub exchanged: Vec<Exchanged>,
@@ -41,18 +43,38 @@ pub struct Suite {
 }
 
 impl Suite {
-    /// Reads a file behind those already read.
-    pub fn read(&mut self, text: &str) -> Result<(), String> {
+    /// Reads the text of a file behind those already read.
+    pub fn read(&mut self, file: &str, text: &str) -> Result<(), String> {
         let mut reader = Reader {
             suite: self,
+            file,
             block: None,
             is_step: false,
         };
         for (number, line) in text.lines().enumerate() {
             let read = reader.line(line);
-            read.map_err(|error| format!("line {}: {error}", number + 1))?;
+            read.map_err(|error| format!("{file}, line {}: {error}", number + 1))?;
         }
-        reader.close()
+        reader.close().map_err(|error| format!("{file}: {error}"))
+    }
+
+    /// Keeps the cases of these files whose name one of the patterns matches;
+    /// no pattern matches all. A pattern that matches none is an error.
+    pub fn select(&mut self, files: &[String], patterns: &[String]) -> Result<(), String> {
+        self.cases.retain(|case| files.contains(&case.file));
+        for pattern in patterns {
+            let mut names = self.cases.iter().map(|case| &case.name);
+            if !names.any(|name| matches(pattern, name)) {
+                return Err(format!("no case {pattern}"));
+            }
+        }
+        let is_meant = |name: &str| patterns.iter().any(|pattern| matches(pattern, name));
+        self.cases
+            .retain(|case| patterns.is_empty() || is_meant(&case.name));
+        match self.cases.is_empty() {
+            true => Err("no case".to_string()),
+            false => Ok(()),
+        }
     }
 
     /// The events as one script.
@@ -71,33 +93,77 @@ impl Suite {
         exchanged.map(|(_, answer)| format!("{answer}\n")).collect()
     }
 
-    /// What differs between a program's answers and those of the cases, with
-    /// one entry for each failed case.
-    pub fn check(&self, answers: &str) -> Vec<String> {
+    /// A verdict for each case on the answers that a program gave to the
+    /// script.
+    pub fn check(&self, answers: &str) -> Verdicts {
         let mut answers = answers.lines();
-        let mut failed = Vec::new();
-        for case in &self.cases {
+        let mut judge = |case: &Case| {
             let got: Vec<&str> = answers.by_ref().take(case.exchanged.len()).collect();
-            failed.extend(case.difference(&got));
+            case.difference(&got)
+        };
+        let differences: Vec<Option<String>> = self.cases.iter().map(&mut judge).collect();
+        Verdicts {
+            names: self.cases.iter().map(|case| case.name.clone()).collect(),
+            differences,
+            is_too_long: answers.next().is_some(),
         }
-        if answers.next().is_some() {
-            failed.push("more answers than events".to_string());
+    }
+}
+
+/// What a program's answers came to.
+#[derive(Clone, Debug, PartialEq, Eq)]
+pub struct Verdicts {
+    names: Vec<String>,
+    /// For each case the first answer that differs.
+    differences: Vec<Option<String>>,
+    /// There are more answers than events.
+    is_too_long: bool,
+}
+
+impl Verdicts {
+    pub fn failed(&self) -> usize {
+        self.differences.iter().flatten().count() + usize::from(self.is_too_long)
+    }
+
+    /// The verdicts as TAP, and a last line that counts them.
+    pub fn tap(&self) -> String {
+        let mut text = format!("1..{}\n", self.names.len());
+        for (place, (name, difference)) in self.names.iter().zip(&self.differences).enumerate() {
+            let number = place + 1;
+            text += &match difference {
+                None => format!("ok {number} - {name}\n"),
+                Some(difference) => format!("not ok {number} - {name}\n{difference}"),
+            };
         }
-        failed
+        if self.is_too_long {
+            text += "Bail out! more answers than events\n";
+        }
+        text + &format!("# {} cases, {} failed\n", self.names.len(), self.failed())
+    }
+}
+
+/// If a name is a pattern's, whose `*` stands for any characters.
+fn matches(pattern: &str, name: &str) -> bool {
+    match pattern.split_once('*') {
+        None => pattern == name,
+        Some((front, rest)) => name.strip_prefix(front).is_some_and(|name| {
+            let mut ends = name.char_indices().map(|(at, _)| &name[at..]);
+            rest.is_empty() || ends.any(|end| matches(rest, end))
+        }),
     }
 }
 
 impl Case {
-    /// The first answer that differs.
+    /// The first answer that differs, as lines of comments.
     fn difference(&self, got: &[&str]) -> Option<String> {
         let place = |place: usize| got.get(place).copied().unwrap_or("nothing");
         let mut numbered = self.exchanged.iter().enumerate();
         let (number, (event, answer)) =
             numbered.find(|(number, (_, answer))| answer != place(*number))?;
         Some(format!(
-            "{} fails: {}\n  event    {event}\n  expected {answer}\n  got      {}",
-            self.name,
+            "#   {}\n#   event {} {event}\n#   expected {answer}\n#   got      {}\n",
             self.purpose,
+            number + 1,
             place(number)
         ))
     }
@@ -106,6 +172,7 @@ impl Case {
 /// Reads one file.
 struct Reader<'a> {
     suite: &'a mut Suite,
+    file: &'a str,
     /// The step or case being read.
     block: Option<Case>,
     is_step: bool,
@@ -121,9 +188,9 @@ impl Reader<'_> {
         if let "step" | "case" = word {
             self.close()?;
             self.is_step = word == "step";
-            let name = rest.to_string();
             let block = Case {
-                name,
+                name: rest.to_string(),
+                file: self.file.to_string(),
                 ..Case::default()
             };
             self.block = Some(block);
@@ -157,14 +224,24 @@ impl Reader<'_> {
             return Err(format!("{name} ends without an answer"));
         }
         if self.is_step {
-            self.suite.steps.insert(block.name, block.exchanged);
-            return Ok(());
+            let before = self.suite.steps.insert(block.name.clone(), block.exchanged);
+            return once(before.is_none(), &block.name);
         }
         if block.purpose.is_empty() || block.paper.is_empty() {
             return Err(format!("{name} lacks its purpose or its sentence"));
         }
+        let mut names = self.suite.cases.iter().map(|case| &case.name);
+        once(names.all(|name| *name != block.name), &block.name)?;
         self.suite.cases.push(block);
         Ok(())
+    }
+}
+
+/// A name that stands twice would hide one of two.
+fn once(is_new: bool, name: &str) -> Result<(), String> {
+    match is_new {
+        true => Ok(()),
+        false => Err(format!("{name} stands twice")),
     }
 }
 

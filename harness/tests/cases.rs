@@ -14,7 +14,8 @@ fn suite() -> Suite {
     let mut suite = Suite::default();
     for path in paths {
         let text = std::fs::read_to_string(&path).expect("text");
-        suite.read(&text).expect("a case file");
+        let file = path.display().to_string();
+        suite.read(&file, &text).expect("a case file");
     }
     suite
 }
@@ -30,8 +31,8 @@ fn answers(script: &str) -> String {
 #[test]
 fn reference_passes() {
     let suite = suite();
-    let failed = suite.check(&answers(&suite.script()));
-    assert!(failed.is_empty(), "{}", failed.join("\n"));
+    let verdicts = suite.check(&answers(&suite.script()));
+    assert_eq!(verdicts.failed(), 0, "{}", verdicts.tap());
 }
 
 #[test]
@@ -47,10 +48,10 @@ fn a_wrong_answer_is_found() {
     let suite = suite();
     let right = suite.answers();
     let wrong = right.replacen("9 - 0 - 0", "0 - 0 - 0", 1);
-    assert_eq!(suite.check(&wrong).len(), 1);
+    assert_eq!(suite.check(&wrong).failed(), 1);
     let short: String = right.lines().take(1).collect();
-    assert!(suite.check(&short).len() > 300);
-    assert_eq!(suite.check(&format!("{right}0 - 0 - 0\n")).len(), 1);
+    assert!(suite.check(&short).failed() > 300);
+    assert_eq!(suite.check(&format!("{right}0 - 0 - 0\n")).failed(), 1);
 }
 
 #[test]
@@ -69,11 +70,67 @@ fn notation() {
         ! message 1 0 1024 SETUP 1/2 length=3 octet7=01 [5C 08(80 90) 42/17=9(AA*2) \"0102\"]\n\
         ? 0 - 0 - 0\n! offer 1 0 1024 []\n? 10 - 0 - 0\n\
         ! reload [02() 03=7(00*2) \"04 00\"]\n? 9 - 0 - 0\n";
-    suite.read(text).expect("a case file");
+    suite.read("a", text).expect("a case file");
     let script = "# A\nmessage 1 0 1024 0903800002050100035c8000020000\
         08800002809042170009aaaa0102\noffer 1 0 1024 -\n\
         reload 02000003000700000400\n";
     assert_eq!(suite.script(), script);
+}
+
+const SMALL: &str = "case A-1\npurpose words\npaper \"words\"\n! tick 1 0 1024\n? no table\n";
+const STEP: &str = "step S\n! tick 1 0 1024\n? no table\n";
+
+/// Three cases in two files.
+fn small() -> Suite {
+    let mut suite = Suite::default();
+    let second = SMALL.replace("A-1", "B-1");
+    suite.read("a", SMALL).expect("a case file");
+    suite.read("b", &second).expect("a case file");
+    suite
+        .read("b", &second.replace("B-1", "B-12"))
+        .expect("a case file");
+    suite
+}
+
+/// The names of the cases that a run takes.
+fn selected(files: &[&str], patterns: &[&str]) -> Result<Vec<String>, String> {
+    let owned = |words: &[&str]| {
+        words
+            .iter()
+            .map(|word| word.to_string())
+            .collect::<Vec<_>>()
+    };
+    let mut suite = small();
+    suite.select(&owned(files), &owned(patterns))?;
+    Ok(suite.cases.into_iter().map(|case| case.name).collect())
+}
+
+#[test]
+fn cases_by_name() {
+    let taken =
+        |files: &[&str], patterns: &[&str]| selected(files, patterns).map(|names| names.join(" "));
+    let right = |names: &str| Ok(names.to_string());
+    assert_eq!(taken(&["a", "b"], &[]), right("A-1 B-1 B-12"));
+    assert_eq!(taken(&["b"], &[]), right("B-1 B-12"));
+    assert_eq!(taken(&["a", "b"], &["B-1"]), right("B-1"));
+    assert_eq!(taken(&["a", "b"], &["B-1*"]), right("B-1 B-12"));
+    assert_eq!(taken(&["a", "b"], &["*-1"]), right("A-1 B-1"));
+    assert_eq!(taken(&["a", "b"], &["*2", "A-1"]), right("A-1 B-12"));
+    assert!(taken(&["a", "b"], &["C-1"]).is_err());
+    assert!(taken(&["a", "b"], &["B-1", "C-*"]).is_err());
+    assert!(taken(&["a"], &["B-1"]).is_err());
+    assert!(taken(&["c"], &[]).is_err());
+}
+
+#[test]
+fn verdicts_as_tap() {
+    let tap = |answers: &str| small().check(answers).tap();
+    let passed = "1..3\nok 1 - A-1\nok 2 - B-1\nok 3 - B-12\n# 3 cases, 0 failed\n";
+    assert_eq!(tap("no table\nno table\nno table\n"), passed);
+    let failed = "1..3\nok 1 - A-1\nnot ok 2 - B-1\n#   words\n#   event 1 tick 1 0 1024\n\
+        #   expected no table\n#   got      bad line\nok 3 - B-12\n# 3 cases, 1 failed\n";
+    assert_eq!(tap("no table\nbad line\nno table\n"), failed);
+    assert!(tap(&"no table\n".repeat(4)).contains("Bail out!"));
 }
 
 #[test]
@@ -90,7 +147,9 @@ fn damaged_files() {
         format!("{head}! message 1 0 1024 SETUP 0/1 [08(8)]\n? 0\n"),
         format!("{head}! message 1 0 1024 SETUP 0/1 [08(80]\n? 0\n"),
         format!("{head}hold\n"),
+        format!("{SMALL}{SMALL}"),
+        format!("{STEP}{STEP}"),
     ] {
-        assert!(Suite::default().read(&text).is_err(), "{text}");
+        assert!(Suite::default().read("a", &text).is_err(), "{text}");
     }
 }
