@@ -205,11 +205,24 @@ impl Coverage {
 
     /// The table of rows, and a last line on those not reached.
     pub fn text(&self) -> String {
-        let list = &self.rows.list;
-        let line =
-            |(id, words, count): &(String, String, u64)| format!("{count:>9}  {id:<34}  {words}\n");
-        let lines: String = list.iter().map(line).collect();
-        let missed = list.iter().filter(|row| row.2 == 0).count();
-        format!("{lines}{} rows, {missed} not reached\n", list.len())
+        let lines: String = self.rows.list.iter().map(line).collect();
+        lines + &self.summary()
     }
+
+    /// The rows that are not reached.
+    pub fn missed(&self) -> String {
+        let list = self.rows.list.iter();
+        list.filter(|row| row.2 == 0).map(line).collect()
+    }
+
+    /// How many rows there are, and how many of them are not reached.
+    pub fn summary(&self) -> String {
+        let missed = self.rows.list.iter().filter(|row| row.2 == 0).count();
+        format!("{} rows, {missed} not reached\n", self.rows.list.len())
+    }
+}
+
+/// A row with its count.
+fn line((id, words, count): &(String, String, u64)) -> String {
+    format!("{count:>9}  {id:<34}  {words}\n")
 }
