@@ -1,5 +1,5 @@
-//! Looks up the names that docs/PROMISES.md and docs/WRONG-ANSWERS.md cite, so
-//! that a name that moved or went is found.
+//! Looks up the names that docs/PROMISES.md cites, so that a name that moved or
+//! went is found.
 //!
 //! `crate/specs/File: \`name\`, \`other\`` cites declarations of a file of
 //! definitions or proofs, `crate/src/lib.rt: \`Name\`` types and constants of
@@ -52,50 +52,6 @@ impl Books {
         }
     }
 
-    /// The rows of docs/WRONG-ANSWERS.md: crate, function or definition, kept
-    /// edits, and a line as it stands with what it is changed to.
-    pub fn wrong_answers(&mut self, text: &str) {
-        for (number, cells) in rows(text) {
-            let Some([name, function, kept, tried]) = cells.get(..4) else {
-                self.found(false, number, "a row of too few cells");
-                continue;
-            };
-            let name = name.trim();
-            let function = function.trim().trim_matches('`');
-            let code = self.code(name);
-            let specs = self.specs(name);
-            let last = function.rsplit("::").next().unwrap_or(function);
-            self.found(
-                declares_function(&code, last) || declares(&specs, last),
-                number,
-                &format!("{name}: {function}"),
-            );
-            for edit in quoted(kept) {
-                let file = format!("{name}/must-fail/{edit}.edit");
-                let is_there = self.crates.join(&file).is_file();
-                self.found(is_there, number, &file);
-            }
-            if let Some(old) = quoted(tried).first() {
-                let text = if code.contains(old.as_str()) {
-                    &code
-                } else {
-                    &specs
-                };
-                let times = text.matches(old.as_str()).count();
-                let stands = if tried.contains('†') {
-                    times > 1
-                } else {
-                    times == 1
-                };
-                self.found(
-                    stands,
-                    number,
-                    &format!("{name}: {old} stands {times} times"),
-                );
-            }
-        }
-    }
-
     /// Looks up the names of a cell.
     fn cell(&mut self, cell: &str, number: usize) {
         let mut place = Place::Nowhere;
@@ -143,10 +99,6 @@ impl Books {
         self.all_of(&format!("{name}/src"), "rt")
     }
 
-    fn specs(&mut self, name: &str) -> String {
-        self.all_of(&format!("{name}/specs"), "antt")
-    }
-
     fn text(&mut self, file: &str) -> String {
         let path = self.crates.join(file);
         let read = || std::fs::read_to_string(&path).unwrap_or_default();
@@ -180,13 +132,6 @@ fn rows(text: &str) -> Vec<(usize, Vec<String>)> {
         }
     }
     rows
-}
-
-/// What stands between backticks.
-fn quoted(cell: &str) -> Vec<String> {
-    let pieces = cell.split('`').enumerate();
-    let inner = pieces.filter(|(index, _)| index % 2 == 1);
-    inner.map(|(_, piece)| piece.to_string()).collect()
 }
 
 /// The last place that a text cites before a name: `crate/specs/File: `.

@@ -17,3 +17,4 @@ mod random;
 pub mod rows;
 pub mod trace;
 pub mod types;
+pub mod wrong;

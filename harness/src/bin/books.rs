@@ -1,5 +1,4 @@
-//! Looks up what docs/PROMISES.md and docs/WRONG-ANSWERS.md cite in the crates
-//! of a repository.
+//! Looks up what docs/PROMISES.md cites in the crates of a repository.
 
 use harness::books::Books;
 use std::path::Path;
@@ -24,7 +23,6 @@ fn main() -> ExitCode {
 fn look_up(root: &Path) -> Result<ExitCode, String> {
     let mut books = Books::new(root);
     books.promises(&read(&root.join("docs/PROMISES.md"))?);
-    books.wrong_answers(&read(&root.join("docs/WRONG-ANSWERS.md"))?);
     for name in &books.missing {
         println!("{name}");
     }
