@@ -18,12 +18,13 @@ reference=$tools/lives
 work=$(mktemp -d)
 trap 'rm -rf "$work"' EXIT
 
+# shellcheck source=harness/instructions.sh
 . "$here/instructions.sh"
 
 # nanoseconds PROGRAM KIND BESIDE RANGES EVENTS: of one event, the best of five runs
 nanoseconds() {
     input "$2" "$3" 250 "$4" >"$work/in"
-    for run in 1 2 3 4 5; do
+    for _ in 1 2 3 4 5; do
         from=$(date +%s%N)
         "$1" <"$work/in" >/dev/null
         to=$(date +%s%N)
@@ -52,7 +53,7 @@ done
 
 # events a second on a script of a million events, the best of three runs
 speed() {
-    for run in 1 2 3; do
+    for _ in 1 2 3; do
         from=$(date +%s%N)
         "$1" <"$work/script" >/dev/null
         to=$(date +%s%N)

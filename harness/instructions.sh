@@ -1,8 +1,10 @@
 # Counts instructions of a program `lives`; bench.sh and search.sh read this. It
 # needs $work, a folder.
+# shellcheck shell=sh disable=SC2154
 
 # The four octets of the input: kind, calls beside, hundreds of lives, lists.
 input() {
+    # shellcheck disable=SC2059
     printf "\\$(printf %o "$1")\\$(printf %o "$2")\\$(printf %o "$3")\\$(printf %o "$4")"
 }
 

@@ -14,6 +14,7 @@ here=$(dirname "$0")
 cargo build --offline --release --quiet --manifest-path "$here/Cargo.toml"
 work=$(mktemp -d)
 trap 'rm -rf "$work"' EXIT
+# shellcheck source=harness/instructions.sh
 . "$here/instructions.sh"
 
 row() {

@@ -29,7 +29,7 @@ trap 'rm -rf "$work"' EXIT
 grep -av -e '^#' -e '^$' "$2" | paste -d'|' - "$work/answers" | grep -av '|bad line$' | sed 's/|[^|]*$//' | cmp - "$work/back"
 
 if ! command -v tshark >/dev/null; then
-    echo "tshark is not installed: no capture of $2 is opened"
+    echo "tshark is not installed: no capture of $(basename "$2") is opened"
     exit 0
 fi
 tshark -r "$work/trace.pcapng" -T fields -e frame.packet_flags_direction -e _ws.col.Info -e q2931.call_ref_flag -e q2931.call_ref \
@@ -46,4 +46,4 @@ awk -F '\t' '
         print way, $2, $3, number($4), $5 == "" ? "-" : number(substr($5, 3))
     }' "$work/fields" | grep "$part" >"$work/theirs" || true
 diff "$work/ours" "$work/theirs" >"$work/differ" || { head -n 20 "$work/differ"; exit 1; }
-echo "$(wc -l <"$work/ours") messages of $2: tshark reads the names, references and causes that we read"
+echo "$(wc -l <"$work/ours") messages of $(basename "$2"): tshark reads the names, references and causes that we read"
