@@ -1,5 +1,5 @@
-//! Looks up the names that docs/PROMISES.md cites, so that a name that moved or
-//! went is found.
+//! Looks up the names that docs/PROMISES.md cites and the files that the books
+//! name, so that one that moved or went is found.
 //!
 //! `crate/specs/File: \`name\`, \`other\`` cites declarations of a file of
 //! definitions or proofs, `crate/src/lib.rt: \`Name\`` types and constants of
@@ -14,6 +14,7 @@ const KEYWORDS: [&str; 2] = ["requires", "ensures"];
 
 /// The crates of a repository, read once for each file.
 pub struct Books {
+    root: PathBuf,
     crates: PathBuf,
     texts: BTreeMap<PathBuf, String>,
     pub looked_up: usize,
@@ -35,6 +36,7 @@ enum Place {
 impl Books {
     pub fn new(root: &Path) -> Books {
         Books {
+            root: root.to_path_buf(),
             crates: root.join("crates"),
             texts: BTreeMap::new(),
             looked_up: 0,
@@ -48,6 +50,24 @@ impl Books {
             for cell in &cells[1..] {
                 self.found(!cell.trim().is_empty(), number, "a cell without a word");
                 self.cell(cell, number);
+            }
+        }
+    }
+
+    /// The files and folders that a text names in backticks, as
+    /// `crates/octets/src/lib.rt`. Words with a place to fill in are passed
+    /// over.
+    pub fn paths(&mut self, text: &str) {
+        const FOLDERS: [&str; 5] = ["crates/", "harness/", "docs/", "examples/", ".ci/"];
+        for (index, line) in text.lines().enumerate() {
+            for piece in line.split('`').skip(1).step_by(2) {
+                let path = piece.split(' ').next().unwrap_or_default();
+                let is_path = FOLDERS.iter().any(|folder| path.starts_with(folder));
+                let is_open = path.contains("NAME") || path.contains("CRATE") || path.contains('*');
+                if is_path && !is_open && !path.contains("/target/") {
+                    let is_there = self.root.join(path).exists();
+                    self.found(is_there, index + 1, path);
+                }
             }
         }
     }

@@ -1,4 +1,5 @@
-//! Looks up what docs/PROMISES.md cites in the crates of a repository.
+//! Looks up what docs/PROMISES.md cites in the crates of a repository, and the
+//! files that its books name.
 
 use harness::books::Books;
 use std::path::Path;
@@ -23,6 +24,14 @@ fn main() -> ExitCode {
 fn look_up(root: &Path) -> Result<ExitCode, String> {
     let mut books = Books::new(root);
     books.promises(&read(&root.join("docs/PROMISES.md"))?);
+    for file in [
+        "README.md",
+        "CONTRIBUTING.md",
+        "harness/README.md",
+        "docs/FORMATS.md",
+    ] {
+        books.paths(&read(&root.join(file))?);
+    }
     for name in &books.missing {
         println!("{name}");
     }
