@@ -14,4 +14,5 @@ trap 'rm -rf "$work"' EXIT
 "$1" <"$2" >"$work/answers"
 "$here/target/release/trace" msc "$2" "$work/answers" >"$work/ladder.msc"
 mscgen -T svg -i "$work/ladder.msc" -o "$work/ladder.svg"
-cat "$work/ladder.svg"
+# on white, also where the page is dark
+awk '{ print } /^<svg/ { inside = 1 } inside && />$/ { print "<rect width=\"100%\" height=\"100%\" fill=\"white\"/>"; inside = 0 }' "$work/ladder.svg"

@@ -1,6 +1,7 @@
 //! The case tables against the reference.
 
 use harness::cases::Suite;
+use harness::coverage::Coverage;
 use harness::exchange::{Exchange, Outcome};
 use std::collections::BTreeSet;
 use std::path::Path;
@@ -33,6 +34,21 @@ fn reference_passes() {
     let suite = suite();
     let verdicts = suite.check(&answers(&suite.script()));
     assert_eq!(verdicts.failed(), 0, "{}", verdicts.tap());
+}
+
+#[test]
+fn every_row_is_reached() {
+    let reached = |script: &str| {
+        let mut coverage = Coverage::default();
+        for line in script.lines() {
+            coverage.take(line.as_bytes());
+        }
+        coverage.missed()
+    };
+    assert_eq!(reached(&suite().script()), "");
+    let mut suite = suite();
+    suite.cases.retain(|case| case.name != "RS-42");
+    assert!(reached(&suite.script()).contains("RS-10-5A"));
 }
 
 #[test]
