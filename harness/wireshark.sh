@@ -25,8 +25,10 @@ trap 'rm -rf "$work"' EXIT
 "$trace" names "$2" "$work/answers" | grep "$part" >"$work/ours"
 
 # the events that the capture gives back, and those of the script that are no bad lines
+events='^(start|message|tick|connect|clear|offer|save|reload) '
 "$trace" script "$work/trace.pcapng" | grep -v '^#' >"$work/back" || true
-grep -av -e '^#' -e '^$' "$2" | paste -d'|' - "$work/answers" | grep -av '|bad line$' | sed 's/|[^|]*$//' | cmp - "$work/back"
+grep -av -e '^#' -e '^$' "$2" | paste -d'|' - "$work/answers" | grep -aE "$events" | grep -av '|bad line$' | sed 's/|[^|]*$//' >"$work/events"
+cmp "$work/events" "$work/back"
 
 if ! command -v tshark >/dev/null; then
     echo "tshark is not installed: no capture of $(basename "$2") is opened"
