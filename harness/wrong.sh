@@ -9,6 +9,7 @@ cargo build --offline --release --quiet --manifest-path "$here/Cargo.toml"
 wrong=$here/target/release/wrong
 work=$(mktemp -d)
 trap 'rm -rf "$work"' EXIT
+trap 'exit 1' HUP INT TERM
 
 # a copy of the repository, with what is proved of it already
 mkdir "$work/target"
