@@ -13,6 +13,8 @@ pub mod forms;
 pub mod generate;
 pub mod line;
 pub mod messages;
+pub mod numbers;
 mod random;
 pub mod rows;
+pub mod shown;
 pub mod types;
