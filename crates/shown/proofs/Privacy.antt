@@ -10,8 +10,8 @@ use mathlib.Core.List.{List, [], _∷_}
 use native.Mathlib.Omega.{arith}
 use native.Mathlib.Nat.{sub-zero, zero-sub, suc-sub-suc}
 use lib.Dec.{eqb}
-use lib.ListN.{length, getD, take, drop}
-use lib.Seq.{take-nil, take-length, drop-drop}
+use lib.ListN.{length, getD, take, drop, length-drop}
+use lib.Seq.{length-take-le, take-nil, take-length, drop-drop}
 use borrow.Author.Tests.{eqb-true}
 use Rattle.octets.specs.Octets.{topBit, part}
 use Rattle.octets.proofs.Cases.{by-test}
@@ -25,7 +25,7 @@ use Rattle.shown.specs.declared.Found.the-variants.{Nothing, Address}
 use Rattle.shown.specs.declared.Extent.{Extent}
 use Rattle.shown.specs.declared.Extent.the-variants.{Message, Record}
 use Rattle.shown.specs.Calling.{callingFits, addressAt, allowed}
-use Rattle.shown.specs.Shown.{passes, read, callingIn, orRecord, extentOf, octetsOf, shownOf}
+use Rattle.shown.specs.Shown.{passes, read, callingIn, orRecord, extentOf, lengthOf, octetsOf, shownOf}
 use Rattle.shown.specs.Privacy.{InFirst, Private}
 use Rattle.shown.proofs.Reach.{address-inside}
 
@@ -52,10 +52,6 @@ isMessage (Record at n) = false
 abbrev placeOf : Extent → ℕ
 placeOf (Message at n) = at
 placeOf (Record at n) = at
-
-abbrev sizeOf : Extent → ℕ
-sizeOf (Message at n) = n
-sizeOf (Record at n) = n
 
 -- ---- which element is the first
 first-cond : (id : ℕ) (t : Bool) (i j : Item) {met action start end : ℕ} → named id i ≡ t → (j ≡ Whole met action start end → met ≡ id)
@@ -126,7 +122,7 @@ module _ (m s : List ℕ) where
       let w = first-within m 9 0x6C (sym (r .whole)) in
       let a = address-inside m (r .start) (r .end) (w .0) (r .readable) in
       let p = sym (ap placeOf e) ∙ ap placeOf (r .is) in
-      let z = sym (ap sizeOf e) ∙ ap sizeOf (r .is) in
+      let z = sym (ap lengthOf e) ∙ ap lengthOf (r .is) in
       record {
         start = r .start;
         end = r .end;
@@ -145,17 +141,26 @@ module _ (m s : List ℕ) where
       let a : r .start ≡ start = sym (ap startOf (r .whole)) ∙ ap startOf q in
       let b : r .end ≡ end = sym (ap endOf (r .whole)) ∙ ap endOf q in
       let g : allowed (part m (r .start) (r .end)) ≡ false = rw (a, b) h in
-      let z : n ≡ 0 = rw g at (sym (ap sizeOf e) ∙ ap sizeOf (r .is)) in
+      let z : n ≡ 0 = rw g at (sym (ap lengthOf e) ∙ ap lengthOf (r .is)) in
       (z, rw e (none-of m at n z))
 
   or-record : (f : Found) (at n : ℕ) → orRecord s f ≡ Record at n → (at ≡ 0) × (n ≡ length s) × (octetsOf m s (orRecord s f) ≡ s)
   or-record Nothing at n e =
       let l : (0 + length s) - 0 ≡ length s = omega arith in
-      (sym (ap placeOf e), sym (ap sizeOf e), rw l (take-length s))
+      (sym (ap placeOf e), sym (ap lengthOf e), rw l (take-length s))
   or-record (Address a k) at n e = absurd (true≢false (ap isMessage e))
 
   record-whole : (at n : ℕ) → extentOf m s ≡ Record at n → (at ≡ 0) × (n ≡ length s) × (shownOf m s ≡ s)
   record-whole at n e = or-record (callingIn m) at n e
+
+  told-by : (f : Found) → ((at n : ℕ) → f ≡ Address at n → at + n ≤ length m) → length (octetsOf m s (orRecord s f)) ≡ lengthOf (orRecord s f)
+  told-by Nothing h = let l : (0 + length s) - 0 ≡ length s = omega arith in rw (l, take-length s)
+  told-by (Address at n) h =
+      let e : (at + n) - at ≡ n = omega arith in
+      rw e (length-take-le n (drop at m) (rw (length-drop at m) (omega (arith, h at n refl))))
+
+  length-told : length (shownOf m s) ≡ lengthOf (extentOf m s)
+  length-told = told-by (callingIn m) (λ at n e. let f = inside at n (ap (orRecord s) e) in omega (arith, f .inside, f .within))
 
   address-whole : (start end : ℕ) → passes (headOf m) ≡ true → firstOf 0x6C (items m 9) ≡ Whole 0x6C 0x80 start end
       → callingFits (part m start end) ≡ true → allowed (part m start end) ≡ true
@@ -169,5 +174,6 @@ privacy m s = record {
   restricted = restricted m s;
   record-whole = record-whole m s;
   message-inside = inside m s;
+  length-told = length-told m s;
   address-whole = address-whole m s;
 }

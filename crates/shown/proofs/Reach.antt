@@ -4,6 +4,7 @@
 --   one-octet-more   twenty octets behind octet 5
 --   part-to-end      a part that ends with the octets
 --   address-inside   the address of readable contents begins within them
+--   part-short       a part of two slices that are short is short: exchange's buffer holds it
 -- Assumes nothing.
 use Prim.Native.Nat.{ℕ, suc, _+_, _-_, _≤_, _<_}
 use mathlib.Core.Path.{_≡_, sym}
@@ -16,7 +17,10 @@ use lib.Seq.{take-all}
 use borrow.Author.Tests.{ltb-true, ltb-false, eqb-true, eqb-false, eq-eqb, ne-eqb}
 use Rattle.octets.specs.Octets.{topBit, part}
 use Rattle.octets.proofs.Cases.{by-test}
+use Rattle.shown.specs.declared.Extent.{Extent}
+use Rattle.shown.specs.declared.Extent.the-variants.{Message, Record}
 use Rattle.shown.specs.Calling.{callingFits, addressAt}
+use Rattle.shown.specs.Shown.{octetsOf}
 
 pub there : (c : List ℕ) (i : ℕ) → topBit (getD c i 0) ≡ true → i < length c
 there c i h =
@@ -43,3 +47,7 @@ address-inside m start end h fits =
     let r = reaches (part m start end) fits in
     let l = length-take (end - start) (drop start m) in
     omega (arith, r, l)
+
+pub part-short : (m s : List ℕ) (k : ℕ) (x : Extent) → length m ≤ k → length s ≤ k → length (octetsOf m s x) ≤ k
+part-short m s k (Message at n) a b = omega (arith, length-take ((at + n) - at) (drop at m), length-drop at m)
+part-short m s k (Record at n) a b = omega (arith, length-take ((at + n) - at) (drop at s), length-drop at s)

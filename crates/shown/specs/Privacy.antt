@@ -13,7 +13,7 @@ use Rattle.items.specs.declared.Item.the-variants.{Whole}
 use Rattle.items.specs.Items.{items, firstOf}
 use Rattle.shown.specs.declared.Extent.the-variants.{Message, Record}
 use Rattle.shown.specs.Calling.{callingFits, addressAt, allowed}
-use Rattle.shown.specs.Shown.{passes, extentOf, shownOf}
+use Rattle.shown.specs.Shown.{passes, extentOf, lengthOf, shownOf}
 
 -- the message is a SETUP that passes, its first 6C is readable, and n octets from place `at` on lie in its contents, behind octet 5
 pub record InFirst (m : List ℕ) (at n : ℕ) : Type 0 where
@@ -35,6 +35,8 @@ pub record Private (m s : List ℕ) : Type 0 where
   pub record-whole : (at n : ℕ) → extentOf m s ≡ Record at n → (at ≡ 0) × (n ≡ length s) × (shownOf m s ≡ s)
   -- what is shown of a message lies in the contents of its first 6C, and only a readable one is shown
   pub message-inside : (at n : ℕ) → extentOf m s ≡ Message at n → InFirst m at n
+  -- "Say which one and which octets.": the length that is said is that of the part
+  pub length-told : length (shownOf m s) ≡ lengthOf (extentOf m s)
   -- "the address shown": with presentation allowed, it is the readable contents without octets 5 and 5a, no octet more or less
   pub address-whole : (start end : ℕ) → passes (headOf m) ≡ true → firstOf 0x6C (items m 9) ≡ Whole 0x6C 0x80 start end
       → callingFits (part m start end) ≡ true → allowed (part m start end) ≡ true

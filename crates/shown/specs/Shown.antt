@@ -2,6 +2,7 @@
 --   passes               a SETUP that passes steps 1, 2 and 5
 --   addressShown, read, callingIn     what a message shows of its calling number
 --   orRecord, extentOf   which of the two is shown, where the part begins and how long it is: the answer
+--   lengthOf             how long an answer says that the part is
 --   octetsOf, shownOf    the octets of that part
 --   beginning            where in memory the part begins
 --   Inside, Within       it lies within what was lent
@@ -54,6 +55,10 @@ orRecord s (Address at n) = Message at n
 -- "Say which one and which octets."
 abbrev pub extentOf : List ℕ → List ℕ → Extent
 extentOf m s = orRecord s (callingIn m)
+
+abbrev pub lengthOf : Extent → ℕ
+lengthOf (Message at n) = n
+lengthOf (Record at n) = n
 
 abbrev pub octetsOf : List ℕ → List ℕ → Extent → List ℕ
 octetsOf m s (Message at n) = part m at (at + n)
