@@ -3,9 +3,9 @@
 //   ask, tell, respond, handle one event
 //   store, keep                a save
 //   open, begin, restore       a start, a reload
-//   show, ask_shown            whose number is shown
 //   take, hear, serve, run     an event's line, a line, whole lines, all of the script
 mod lines;
+mod number;
 mod texts;
 
 use display::Asked;
@@ -15,7 +15,6 @@ use outcome::Started;
 use script::Clock;
 use script::Line;
 use script::List;
-use script::Octets;
 use script::Request;
 use table::Table;
 ghost use mathlib.Core.Path.{_≡_};
@@ -297,57 +296,6 @@ fn read(line: &[u8], octets: &mut [u8; 4096]) -> Line
     script::read(line, octets)
 }
 
-// Which part of a message or of a record is shown, and in words if that is asked for.
-fn show<'a>(desk: Desk, message: &'a [u8], subscription: &'a [u8], out: &mut [u8; 65536]) -> usize
-    requires { ⌜ (desk .used ≤ 65536) × (length (now message) ≤ 4096) × (length (now subscription) ≤ 4096) ⌝ }
-    ensures { λ r. ⌜ r ≤ 65536 ⌝ }
-{
-    let extent = shown::locate(message, subscription);
-    let part = shown::shown(message, subscription);
-    let at = texts::cleared(out, desk.used);
-    let next = display::put_answer(out, at, extent, part);
-    if !desk.explains {
-        return next;
-    }
-    display::put_words(out, next, extent)
-}
-
-// The same of the first octets of two buffers.
-fn show_front<'a>(
-    desk: Desk,
-    octets: &'a [u8],
-    n: usize,
-    subscription: &'a [u8],
-    k: usize,
-    out: &mut [u8; 65536],
-) -> usize
-    requires { ⌜ (desk .used ≤ 65536) × (n ≤ length (now octets)) × (n ≤ 4096) × (k ≤ length (now subscription)) × (k ≤ 4096) ⌝ }
-    ensures { λ r. ⌜ r ≤ 65536 ⌝ }
-{
-    show(desk, &octets[0..n], &subscription[0..k], out)
-}
-
-// A line `shown MESSAGE RECORD`, whose words stand before and behind place `second`. It needs no table.
-fn ask_shown(
-    desk: Desk,
-    line: &[u8],
-    second: usize,
-    octets: &mut [u8; 4096],
-    out: &mut [u8; 65536],
-) -> usize
-    requires { ⌜ (desk .used ≤ 65536) × (6 ≤ second) × (second < length (now line)) ⌝ }
-    ensures { λ r. ⌜ r ≤ 65536 ⌝ }
-{
-    let mut record = io::buffer();
-    match script::read_octets(&line[6..second], octets) {
-        Octets::Bad => texts::put_bad_line(out, desk.used, line, desk.explains),
-        Octets::Are(n) => match script::read_octets(&line[second + 1..], &mut record) {
-            Octets::Bad => texts::put_bad_line(out, desk.used, line, desk.explains),
-            Octets::Are(k) => show_front(desk, octets, n, &record, k, out),
-        },
-    }
-}
-
 // One line that asks something of the table.
 fn take(desk: Desk, line: &[u8], octets: &mut [u8; 4096], out: &mut [u8; 65536]) -> Desk
     requires { ⌜ desk .used ≤ 65536 ⌝ }
@@ -369,7 +317,14 @@ fn hear(desk: Desk, line: &[u8], octets: &mut [u8; 4096], out: &mut [u8; 65536])
 {
     match display::find(line) {
         Asked::Other => take(desk, line, octets, out),
-        Asked::Words(second) => desk.filled(ask_shown(desk, line, second, octets, out)),
+        Asked::Words(second) => desk.filled(number::ask(
+            out,
+            desk.used,
+            line,
+            second,
+            octets,
+            desk.explains,
+        )),
     }
 }
 

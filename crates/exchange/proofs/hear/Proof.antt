@@ -1,6 +1,5 @@
 -- `exchange::hear` is safe: the words of the line lie within it. Assumes nothing.
 use borrow.Author.Needs.{needs}
-use mathlib.Core.Path.{sym, _∙_}
 use Rattle.exchange.proofs.hear.Statement.{statement}
 use Rattle.exchange.proofs.hear.Tie as tie
 
@@ -16,8 +15,8 @@ take-requires c κs = search needs
 enum-known-second : tie.Need-enum-known-second
 enum-known-second c = search needs
 
-ask-shown-requires : tie.Need-ask-shown-requires
-ask-shown-requires c κs =
+ask-requires : tie.Need-ask-requires
+ask-requires c κs =
     let w = rw (c .before .before .before .second .given .1) at (c .before .before .before .before .before .find .ensures .1) in
     (search needs, w .0, w .1)
 
@@ -38,7 +37,7 @@ hear-spec =
     enum-told
     take-requires
     enum-known-second
-    ask-shown-requires
+    ask-requires
     filled-requires
     returns
     returns-2)

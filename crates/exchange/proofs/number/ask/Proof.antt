@@ -1,10 +1,10 @@
--- `exchange::ask_shown` is safe: as many octets were read of each word as its buffer holds. Assumes nothing.
+-- `exchange::number::ask` is safe: as many octets were read of each word as its buffer holds. Assumes nothing.
 use borrow.Author.Needs.{needs}
 use mathlib.Core.Path.{_≡_}
 use Prim.Native.Nat.{_≤_}
 use lib.ListN.{length}
-use Rattle.exchange.proofs.ask_shown.Statement.{statement}
-use Rattle.exchange.proofs.ask_shown.Tie as tie
+use Rattle.exchange.proofs.number.ask.Statement.{statement}
+use Rattle.exchange.proofs.number.ask.Tie as tie
 
 buffer-requires : tie.Need-buffer-requires
 buffer-requires c κs = search needs
@@ -82,8 +82,8 @@ returns-2 c = search needs
 returns-3 : tie.Need-returns-3
 returns-3 c = search needs
 
-pub ask-shown-spec : {M : Type 1} → statement M
-ask-shown-spec =
+pub ask-spec : {M : Type 1} → statement M
+ask-spec =
     tie.close
     (tie.spec
     buffer-requires
