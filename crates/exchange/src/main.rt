@@ -3,12 +3,11 @@
 //   ask, tell, respond, handle one event
 //   store, keep                a save
 //   open, begin, restore       a start, a reload
-//   take, hear, serve, run     an event's line, a line, whole lines, all of the script
+//   take, serve, run           a line, whole lines, all of the script
 mod lines;
 mod number;
 mod texts;
 
-use display::Asked;
 use lines::Chunk;
 use outcome::Answer;
 use outcome::Started;
@@ -296,35 +295,17 @@ fn read(line: &[u8], octets: &mut [u8; 4096]) -> Line
     script::read(line, octets)
 }
 
-// One line that asks something of the table.
+// One line; what asks nothing of the table is answered apart.
 fn take(desk: Desk, line: &[u8], octets: &mut [u8; 4096], out: &mut [u8; 65536]) -> Desk
     requires { ⌜ desk .used ≤ 65536 ⌝ }
     ensures { λ r. ⌜ r .used ≤ 65536 ⌝ }
 {
     match read(line, octets) {
-        Line::Bad => desk.filled(texts::put_bad_line(out, desk.used, line, desk.explains)),
+        Line::Bad => desk.filled(number::answer(out, desk.used, line, octets, desk.explains)),
         Line::Start => begin(desk, line, out),
         Line::Event(clock, request) => handle(desk, clock, request, octets, out),
         Line::Save(size) => desk.filled(keep(desk, size, out)),
         Line::Reload(n) => restore(desk, octets, n, out),
-    }
-}
-
-// One line.
-fn hear(desk: Desk, line: &[u8], octets: &mut [u8; 4096], out: &mut [u8; 65536]) -> Desk
-    requires { ⌜ desk .used ≤ 65536 ⌝ }
-    ensures { λ r. ⌜ r .used ≤ 65536 ⌝ }
-{
-    match display::find(line) {
-        Asked::Other => take(desk, line, octets, out),
-        Asked::Words(second) => desk.filled(number::ask(
-            out,
-            desk.used,
-            line,
-            second,
-            octets,
-            desk.explains,
-        )),
     }
 }
 
@@ -342,7 +323,7 @@ fn serve(
     let mut at: usize = 0;
     while at < whole {
         let end = script::place_of(b'\n', input, at);
-        desk = hear(desk, &input[at..end], octets, out);
+        desk = take(desk, &input[at..end], octets, out);
         at = end + 1;
     }
     desk

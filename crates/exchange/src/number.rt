@@ -1,8 +1,9 @@
 // Whose number is shown: a line `shown MESSAGE RECORD` and its answer, at a place of the output. It needs no table.
 //   show, show_front     which part of a message or of a record is shown
-//   ask                  a line
+//   ask, answer          a line
 // Each answers the place behind what it writes.
 use crate::texts;
+use display::Asked;
 use script::Octets;
 ghost use Prim.Native.Nat.{_≤_, _<_};
 ghost use lib.ListN.{length};
@@ -45,7 +46,7 @@ fn show_front<'a>(
 }
 
 // A line whose MESSAGE ends at place `second`, where its RECORD begins behind a blank.
-pub(crate) fn ask(
+fn ask(
     out: &mut [u8; 65536],
     at: usize,
     line: &[u8],
@@ -63,5 +64,22 @@ pub(crate) fn ask(
             Octets::Bad => texts::put_bad_line(out, at, line, explains),
             Octets::Are(k) => show_front(out, at, octets, n, &record, k, explains),
         },
+    }
+}
+
+// A line that is no event's: one that asks whose number is shown, or one that cannot be read.
+pub(crate) fn answer(
+    out: &mut [u8; 65536],
+    at: usize,
+    line: &[u8],
+    octets: &mut [u8; 4096],
+    explains: bool,
+) -> usize
+    requires { ⌜ at ≤ 65536 ⌝ }
+    ensures { λ r. ⌜ r ≤ 65536 ⌝ }
+{
+    match display::find(line) {
+        Asked::Other => texts::put_bad_line(out, at, line, explains),
+        Asked::Words(second) => ask(out, at, line, second, octets, explains),
     }
 }

@@ -18,17 +18,17 @@ loop-holds c = search needs
 place-of-requires : tie.Need-place-of-requires Inv-loop μ-loop
 place-of-requires c κs = search needs
 
-sub-hear : tie.Need-sub-hear Inv-loop μ-loop
-sub-hear c = search needs
+sub-take : tie.Need-sub-take Inv-loop μ-loop
+sub-take c = search needs
 
-part-hear-start : tie.Need-part-hear-start Inv-loop μ-loop
-part-hear-start c = search needs
+part-take-start : tie.Need-part-take-start Inv-loop μ-loop
+part-take-start c = search needs
 
-part-hear-end : tie.Need-part-hear-end Inv-loop μ-loop
-part-hear-end c = c .place-of .ensures .1 .1 (omega arith)
+part-take-end : tie.Need-part-take-end Inv-loop μ-loop
+part-take-end c = c .place-of .ensures .1 .1 (omega arith)
 
-hear-requires : tie.Need-hear-requires Inv-loop μ-loop
-hear-requires c κs = search needs
+take-requires : tie.Need-take-requires Inv-loop μ-loop
+take-requires c κs = search needs
 
 add-at : tie.Need-add-at Inv-loop μ-loop
 add-at c =
@@ -54,10 +54,10 @@ serve-spec =
     μ-loop
     loop-holds
     place-of-requires
-    sub-hear
-    part-hear-start
-    part-hear-end
-    hear-requires
+    sub-take
+    part-take-start
+    part-take-end
+    take-requires
     add-at
     loop-less
     loop-again
