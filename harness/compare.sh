@@ -3,12 +3,14 @@
 # first answer that differs.
 # usage: compare.sh PROGRAM SEED EVENTS
 #        compare.sh PROGRAM SEED COUNT forms    as forms.sh does
+#        compare.sh PROGRAM SEED COUNT numbers  as shown.sh does
 set -eu
 export LC_ALL=C
 
 case $#${4:-} in
 3) maker=generate things=events ;;
 4forms) maker=forms things="damaged forms" ;;
+4numbers) maker=numbers things="messages with a calling number" ;;
 *)
     echo "usage: compare.sh PROGRAM SEED EVENTS" >&2
     exit 2

@@ -178,7 +178,8 @@ fn declares(text: &str, name: &str) -> bool {
 }
 
 fn declares_function(code: &str, name: &str) -> bool {
-    code.contains(&format!("fn {name}("))
+    // a lifetime may stand before the arguments
+    code.contains(&format!("fn {name}(")) || code.contains(&format!("fn {name}<"))
 }
 
 /// If a function, a type or a constant is declared.

@@ -17,6 +17,7 @@ use crate::controller::{Answer, Call, Reference, State, Table};
 use crate::decode::{receive, Received};
 use crate::exchange::{read_event, Event, Exchange, Line, Outcome};
 use crate::rows::Row;
+use crate::shown::shown;
 use std::collections::HashMap;
 
 /// The rows with their words and counts, in the order of listing.
@@ -162,6 +163,7 @@ impl Coverage {
             Line::Skipped => Outcome::Skipped,
             Line::Bad => Outcome::BadLine,
             Line::Event(event) => self.exchange.event(event),
+            Line::Shown(message, record) => Outcome::Shown(shown(message, record)),
         };
         lines::hit(&mut self.rows, before.as_ref(), &read, &outcome);
         if let (Line::Event(event), Outcome::Answer(answer)) = (&read, &outcome) {

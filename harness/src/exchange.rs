@@ -7,6 +7,7 @@ pub use read::{read_event, Event, Line};
 use crate::compose::hex;
 use crate::controller::{Answer, Flags, Table};
 use crate::rows::Row;
+use crate::shown::{shown, Shown};
 use std::fmt;
 use std::io::{self, BufRead, Read};
 
@@ -23,6 +24,7 @@ pub enum Outcome {
     BadLine,
     NoTable,
     Answer(Answer),
+    Shown(Shown),
 }
 
 /// The table since the last accepted start or reload.
@@ -38,6 +40,7 @@ impl Exchange {
             Line::Skipped => Outcome::Skipped,
             Line::Bad => Outcome::BadLine,
             Line::Event(event) => self.event(&event),
+            Line::Shown(message, record) => Outcome::Shown(shown(&message, &record)),
         }
     }
 
@@ -92,6 +95,7 @@ impl fmt::Display for Outcome {
             Outcome::BadLine => f.write_str("bad line"),
             Outcome::NoTable => f.write_str("no table"),
             Outcome::Answer(answer) => answer.fmt(f),
+            Outcome::Shown(shown) => shown.fmt(f),
         }
     }
 }

@@ -71,11 +71,16 @@ fn a_wrong_answer_is_found() {
 }
 
 #[test]
-fn every_case_begins_with_a_start_or_a_reload() {
+fn every_case_begins_afresh() {
     for case in suite().cases {
         let (first, _) = &case.exchanged[0];
-        let fresh = first.starts_with("start ") || first.starts_with("reload ");
-        assert!(fresh, "{}", case.name);
+        // which number is shown needs no table
+        let fresh = ["start ", "reload ", "shown"];
+        assert!(
+            fresh.iter().any(|word| first.starts_with(word)),
+            "{}",
+            case.name
+        );
     }
 }
 
@@ -85,11 +90,13 @@ fn notation() {
     let text = "case A\npurpose words\npaper \"words\"\n\
         ! message 1 0 1024 SETUP 1/2 length=3 octet7=01 [5C 08(80 90) 42/17=9(AA*2) \"0102\"]\n\
         ? 0 - 0 - 0\n! offer 1 0 1024 []\n? 10 - 0 - 0\n\
-        ! reload [02() 03=7(00*2) \"04 00\"]\n? 9 - 0 - 0\n";
+        ! reload [02() 03=7(00*2) \"04 00\"]\n? 9 - 0 - 0\n\
+        ! shown SETUP 0/1 octet7=00 [6C(91 35)] 4142\n? message 14 1 35\n";
     suite.read("a", text).expect("a case file");
     let script = "# A\nmessage 1 0 1024 0903800002050100035c8000020000\
         08800002809042170009aaaa0102\noffer 1 0 1024 -\n\
-        reload 02000003000700000400\n";
+        reload 02000003000700000400\n\
+        shown 0903000001050000066c8000029135 4142\n";
     assert_eq!(suite.script(), script);
 }
 
@@ -162,6 +169,7 @@ fn damaged_files() {
         format!("{head}! message 1 0 1024 SETUP 0/1 [08]\n? 0\n"),
         format!("{head}! message 1 0 1024 SETUP 0/1 [08(8)]\n? 0\n"),
         format!("{head}! message 1 0 1024 SETUP 0/1 [08(80]\n? 0\n"),
+        format!("{head}! shown SETUP 0/1 [6C(91 35)]\n? record 0 0 -\n"),
         format!("{head}hold\n"),
         format!("{SMALL}{SMALL}"),
         format!("{STEP}{STEP}"),

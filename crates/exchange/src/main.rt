@@ -5,6 +5,7 @@
 //   open, begin, restore       a start, a reload
 //   take, serve, run           a line, whole lines, all of the script
 mod lines;
+mod number;
 mod texts;
 
 use lines::Chunk;
@@ -294,13 +295,13 @@ fn read(line: &[u8], octets: &mut [u8; 4096]) -> Line
     script::read(line, octets)
 }
 
-// One line.
+// One line; what asks nothing of the table is answered apart.
 fn take(desk: Desk, line: &[u8], octets: &mut [u8; 4096], out: &mut [u8; 65536]) -> Desk
     requires { ⌜ desk .used ≤ 65536 ⌝ }
     ensures { λ r. ⌜ r .used ≤ 65536 ⌝ }
 {
     match read(line, octets) {
-        Line::Bad => desk.filled(texts::put_bad_line(out, desk.used, line, desk.explains)),
+        Line::Bad => desk.filled(number::answer(out, desk.used, line, octets, desk.explains)),
         Line::Start => begin(desk, line, out),
         Line::Event(clock, request) => handle(desk, clock, request, octets, out),
         Line::Save(size) => desk.filled(keep(desk, size, out)),

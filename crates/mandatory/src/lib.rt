@@ -1,7 +1,7 @@
 // Readable contents of the elements that SETUP must have, but for 59, which is in crate traffic. `c` is an element's contents, of any length.
 //   qos_fits                      5C QoS
 //   bearer_fits, is_multipoint    5E Bearer capability
-//   called_fits                   70 Called number
+//   digits_from, called_fits      70 Called number
 // Nothing has a `requires`. Assumes nothing.
 use octets::octet_at;
 ghost use mathlib.Core.Path.{_≡_};
@@ -75,7 +75,7 @@ pub fn is_multipoint(c: &[u8]) -> bool
 }
 
 // 70 Called number.
-fn digits_from(c: &[u8], from: usize) -> bool
+pub fn digits_from(c: &[u8], from: usize) -> bool
     ensures { λ r. ⌜ r ≡ digits (drop from (now (c .entry))) ⌝ }
 {
     let mut i = from;

@@ -13,6 +13,8 @@
 //! "42 80 00"         octets as they stand
 //! ```
 //!
+//! `shown TYPE FLAG/VALUE [ELEMENTS] RECORD` has a message before its record.
+//!
 //! `reload [FIELDS]` is a saved form. A field is `03(00*8)`, a tag with its
 //! contents, or `03=7(00*8)` with another length, or octets as they stand.
 
@@ -29,6 +31,9 @@ pub fn expand(text: &str) -> Result<String, String> {
     let Some((head, parts)) = text.split_once('[') else {
         return Ok(text.to_string());
     };
+    if let Some(head) = head.strip_prefix("shown ") {
+        return shown(head, parts);
+    }
     let parts = parts.strip_suffix(']').ok_or("no ] at the end")?;
     let words: Vec<&str> = head.split_whitespace().collect();
     let (front, octets) = match words.as_slice() {
@@ -41,6 +46,17 @@ pub fn expand(text: &str) -> Result<String, String> {
         _ => return Err(format!("octets in an event that has none: {head}")),
     };
     Ok(format!("{} {}", words[..front].join(" "), hex(&octets)))
+}
+
+/// A message before its record, from the words on both sides of `[`.
+fn shown(head: &str, parts: &str) -> Result<String, String> {
+    let words: Vec<&str> = head.split_whitespace().collect();
+    let (parts, record) = parts.rsplit_once("] ").ok_or("no record behind ]")?;
+    let [kind, reference, options @ ..] = words.as_slice() else {
+        return Err(format!("no message: {head}"));
+    };
+    let octets = message(kind, reference, options, &read_parts(parts, element)?)?;
+    Ok(format!("shown {} {record}", hex(&octets)))
 }
 
 fn element(head: &str, length: usize, contents: &[u8]) -> Result<Vec<u8>, String> {

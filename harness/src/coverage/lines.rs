@@ -21,6 +21,7 @@ pub fn hit(rows: &mut Rows, before: Option<&Table>, line: &Line, outcome: &Outco
         (Line::Skipped, _) => rows.hit("LI-skip"),
         (Line::Bad, _) if before.is_some() => rows.hit("LI-bad"),
         (Line::Bad, _) => rows.hit("LI-bad-early"),
+        (Line::Shown(..), _) => {}
         (Line::Event(event), Outcome::NoTable) => {
             rows.hit(&format!("LI-none-{}", event.word()));
         }

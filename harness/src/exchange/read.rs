@@ -14,6 +14,8 @@ pub enum Line {
     Skipped,
     Bad,
     Event(Event),
+    /// A message and a record, of which one is shown; no table is asked.
+    Shown(Vec<u8>, Vec<u8>),
 }
 
 #[derive(Clone, Debug, PartialEq, Eq)]
@@ -65,8 +67,18 @@ pub fn read_event(line: &[u8]) -> Line {
     match line {
         [] | [b'#', ..] => Line::Skipped,
         _ if line.len() > LINE_LIMIT => Line::Bad,
-        _ => event(line).map_or(Line::Bad, Line::Event),
+        _ => shown(line)
+            .or_else(|| event(line).map(Line::Event))
+            .unwrap_or(Line::Bad),
     }
+}
+
+fn shown(line: &[u8]) -> Option<Line> {
+    let words: Vec<&[u8]> = line.split(|&octet| octet == b' ').collect();
+    let [b"shown", message, record] = *words.as_slice() else {
+        return None;
+    };
+    Some(Line::Shown(read_octets(message)?, read_octets(record)?))
 }
 
 fn event(line: &[u8]) -> Option<Event> {

@@ -11,8 +11,8 @@ read-requires c κs = search needs
 enum-told : tie.Need-enum-told
 enum-told c = search needs
 
-put-bad-line-requires : tie.Need-put-bad-line-requires
-put-bad-line-requires c κs = search needs
+answer-requires : tie.Need-answer-requires
+answer-requires c κs = search needs
 
 filled-requires : tie.Need-filled-requires
 filled-requires c κs = search needs
@@ -71,7 +71,7 @@ take-spec =
     (tie.spec
     read-requires
     enum-told
-    put-bad-line-requires
+    answer-requires
     filled-requires
     enum-told-2
     begin-requires
