@@ -10,10 +10,10 @@ use mathlib.Core.List.{List, [], _∷_}
 use native.Mathlib.Omega.{arith}
 use native.Mathlib.Nat.{sub-zero, zero-sub, suc-sub-suc}
 use lib.Dec.{eqb}
-use lib.ListN.{length, getD, take, drop, length-drop}
+use lib.ListN.{length, take, drop, length-drop}
 use lib.Seq.{length-take-le, take-nil, take-length, drop-drop}
 use borrow.Author.Tests.{eqb-true}
-use Rattle.octets.specs.Octets.{topBit, part}
+use Rattle.octets.specs.Octets.{part}
 use Rattle.octets.proofs.Cases.{by-test}
 use Rattle.header.specs.Header.{headOf}
 use Rattle.items.specs.declared.Item.{Item}
@@ -76,9 +76,6 @@ drop-part m start end k h =
     rw (drop-take k (end - start) (drop start m), e, drop-drop k start m)
 
 -- ---- places
-behind-5 : (c : List ℕ) → 1 ≤ addressAt c
-behind-5 c = by-test (topBit (getD c 0 0)) (λ e. rw e (omega arith)) (λ e. rw e (omega arith))
-
 up-to : (t : Bool) (a end : ℕ) → a ≤ end → a + cond t (end - a) 0 ≤ end
 up-to true a end h = omega arith
 up-to false a end h = omega arith
@@ -129,7 +126,7 @@ module _ (m s : List ℕ) where
         passed = f .0;
         first = r .whole;
         readable = r .readable;
-        behind = omega (arith, p, behind-5 (part m (r .start) (r .end)));
+        begins = p;
         inside = omega (arith, p, z, up-to (allowed (part m (r .start) (r .end))) _ (r .end) a);
         within = w .1;
       }
@@ -143,6 +140,11 @@ module _ (m s : List ℕ) where
       let g : allowed (part m (r .start) (r .end)) ≡ false = rw (a, b) h in
       let z : n ≡ 0 = rw g at (sym (ap lengthOf e) ∙ ap lengthOf (r .is)) in
       (z, rw e (none-of m at n z))
+
+  empty-part : (start end : ℕ) → passes (headOf m) ≡ true → firstOf 0x6C (items m 9) ≡ Whole 0x6C 0x80 start end
+      → callingFits (part m start end) ≡ true → allowed (part m start end) ≡ false
+      → extentOf m s ≡ Message (start + addressAt (part m start end)) 0
+  empty-part start end p q f a = rw (p, q, f, a)
 
   or-record : (f : Found) (at n : ℕ) → orRecord s f ≡ Record at n → (at ≡ 0) × (n ≡ length s) × (octetsOf m s (orRecord s f) ≡ s)
   or-record Nothing at n e =
@@ -172,6 +174,7 @@ module _ (m s : List ℕ) where
 pub privacy : (m s : List ℕ) → Private m s
 privacy m s = record {
   restricted = restricted m s;
+  empty-part = empty-part m s;
   record-whole = record-whole m s;
   message-inside = inside m s;
   length-told = length-told m s;

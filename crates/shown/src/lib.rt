@@ -1,5 +1,6 @@
 // Whose number is shown to the called side: the calling number of a SETUP, or the lent subscription record.
-//   calling_fits, address_at, is_allowed    6C Calling number: readable contents, where its address begins, its presentation
+//   address_fits, calling_fits              6C Calling number: a readable address, readable contents
+//   address_at, is_allowed                  .. where its address begins, its presentation
 //   is_setup, number                        is a message to be looked at, and its calling number element
 //   Found, calling                          what a message shows of its calling number
 //   Extent, locate                          which of the two is shown, where the part begins and how long it is
