@@ -4,6 +4,7 @@
 //   put_answer      a whole answer line
 // Each asks for room; octets around what it writes are unchanged. Assumes nothing.
 use slots::Flags;
+use slots::SLOTS;
 ghost use mathlib.Core.Path.{_≡_};
 ghost use mathlib.Core.Bool.{true, cond};
 ghost use mathlib.Core.List.{[]};
@@ -85,7 +86,7 @@ fn put_slots(out: &mut [u8], at: usize, flags: Flags) -> usize
 {
     let mut next = at;
     let mut i: usize = 0;
-    while i < 32 {
+    while i < SLOTS {
         let on = flags.on[i];
         next = put_flag(out, next, i as u8, next == at, on);
         i += 1;

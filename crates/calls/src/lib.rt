@@ -1,48 +1,58 @@
-// Calls: one call with its state and timer, and one slot. Everything goes by value.
-//   Clearing, Phase, Call         a call with its state; a state's timer is part of the state
-//   Hold, Slot                    an empty slot or a live call
+// Calls: one call, its state with its timer, and one slot. Everything goes by value.
+//   LARGEST_READING               no later reading is accepted; milliseconds, as all times
+//   T303, T308, T310              how long each timer runs
+//   Clearing, State, Call         a call, and the state that it is in; a state's timer is part of the state
+//   Hold, Slot                    an empty slot, or a live call with its state
 //   Due                           a deadline, or none
-//   Phase::state_number, due      the paper's number of a state, and its timer's deadline
-//   Call::moved                   a call in another state
+//   State::number, due            the paper's number of a state, and its timer's deadline
 //   Due::by                       if a deadline has come
 //   Slot::..                      what one slot holds
+// A slot is 32 octets long: what is small stands first in a variant, beside its tag.
 // Nothing here has a `requires`. Assumes nothing.
 use channels::Channel;
 use channels::Entry;
+use channels::Named;
 ghost use mathlib.Core.Path.{_≡_};
 ghost use mathlib.Core.Bool.{true, false};
-ghost use Rattle.calls.specs.Calls.{stateNumber, moved, noSlot, isEmpty, isLive, isCall, holdsPair, entryOf, emptied};
-ghost use Rattle.calls.specs.Timers.{phaseDue, deadlineOf, dueBy, isDue};
+ghost use Rattle.calls.specs.Calls.{stateNumber, noSlot, liveSlot, isEmpty, isLive, isCall, holdsPair, entryOf, isNamed, emptied};
+ghost use Rattle.calls.specs.Timers.{stateDue, deadlineOf, dueBy};
 
-// Clearing in N12: T308's deadline, if it is the second, and the cause of the first RELEASE; expired: T310 ran out, and the diagnostic is "310", otherwise there is none.
+pub const LARGEST_READING: u64 = 4000000000000;
+
+pub const T303: u64 = 4000;
+
+pub const T308: u64 = 30000;
+
+pub const T310: u64 = 10000;
+
+// Clearing in N12: if T308 runs a second time, and the cause of the first RELEASE; expired: T310 ran out, and the
+// diagnostic is "310", otherwise there is none.
 pub struct Clearing {
-    pub deadline: u64,
     pub second: bool,
     pub cause: u8,
     pub expired: bool,
 }
 
-// The state of a live call. The number is the deadline of T303 in N6 and of T310 in N9.
-pub enum Phase {
+// The state of a live call. The number is the deadline of T303 in N6, of T310 in N9 and of T308 in N12.
+pub enum State {
     N3,
     N6(u64),
     N9(u64),
     N10,
-    N12(Clearing),
+    N12(Clearing, u64),
 }
 
-// A live call. `network`: it is network-originated.
+// Who a live call is, and the pair that it holds. `network`: it is network-originated.
 pub struct Call {
     pub network: bool,
-    pub reference: u32,
     pub vpci: u16,
     pub vci: u16,
-    pub phase: Phase,
+    pub reference: u32,
 }
 
 pub enum Hold {
     Empty,
-    Live(Call),
+    Live(Call, State),
 }
 
 pub struct Slot {
@@ -55,56 +65,41 @@ pub enum Due {
     At(u64),
 }
 
-impl Phase {
+impl State {
     // The number that Call state shows.
-    pub fn state_number(self) -> u8
+    pub fn number(self) -> u8
         ensures { λ r. ⌜ r ≡ stateNumber self ⌝ }
     {
         match self {
-            Phase::N3 => 3,
-            Phase::N6(_) => 6,
-            Phase::N9(_) => 9,
-            Phase::N10 => 10,
-            Phase::N12(_) => 12,
+            State::N3 => 3,
+            State::N6(_) => 6,
+            State::N9(_) => 9,
+            State::N10 => 10,
+            State::N12(_, _) => 12,
         }
     }
 
     pub fn due(self) -> Due
-        ensures { λ r. ⌜ r ≡ phaseDue self ⌝ }
+        ensures { λ r. ⌜ r ≡ stateDue self ⌝ }
     {
         match self {
-            Phase::N3 => Due::Never,
-            Phase::N6(deadline) => Due::At(deadline),
-            Phase::N9(deadline) => Due::At(deadline),
-            Phase::N10 => Due::Never,
-            Phase::N12(clearing) => Due::At(clearing.deadline),
-        }
-    }
-}
-
-impl Call {
-    // The call in another state: the old state's timer goes with the old state.
-    pub fn moved(self, phase: Phase) -> Call
-        ensures { λ r. ⌜ r ≡ moved self phase ⌝ }
-    {
-        Call {
-            network: self.network,
-            reference: self.reference,
-            vpci: self.vpci,
-            vci: self.vci,
-            phase: phase,
+            State::N3 => Due::Never,
+            State::N6(deadline) => Due::At(deadline),
+            State::N9(deadline) => Due::At(deadline),
+            State::N10 => Due::Never,
+            State::N12(_, deadline) => Due::At(deadline),
         }
     }
 }
 
 impl Due {
     // Due: the reading is at least the deadline.
-    pub fn by(self, now: u64) -> bool
-        ensures { λ r. ⌜ r ≡ dueBy now self ⌝ }
+    pub fn by(self, reading: u64) -> bool
+        ensures { λ r. ⌜ r ≡ dueBy reading self ⌝ }
     {
         match self {
             Due::Never => false,
-            Due::At(deadline) => deadline <= now,
+            Due::At(deadline) => deadline <= reading,
         }
     }
 }
@@ -117,13 +112,21 @@ impl Slot {
         Slot { hold: hold }
     }
 
+    // The slot of a call in a state.
+    pub fn live(call: Call, state: State) -> Slot
+        ensures { λ r. ⌜ r ≡ liveSlot call state ⌝ }
+    {
+        let hold = Hold::Live(call, state);
+        Slot { hold: hold }
+    }
+
     pub fn is_empty(self) -> bool
         ensures { λ r. ⌜ r ≡ isEmpty self ⌝ }
     {
         let hold = self.hold;
         match hold {
             Hold::Empty => true,
-            Hold::Live(_) => false,
+            Hold::Live(_, _) => false,
         }
     }
 
@@ -133,7 +136,7 @@ impl Slot {
         let hold = self.hold;
         match hold {
             Hold::Empty => false,
-            Hold::Live(_) => true,
+            Hold::Live(_, _) => true,
         }
     }
 
@@ -144,7 +147,7 @@ impl Slot {
         let hold = self.hold;
         match hold {
             Hold::Empty => false,
-            Hold::Live(call) => {
+            Hold::Live(call, _) => {
                 if call.network == network {
                     return call.reference == reference;
                 }
@@ -159,7 +162,7 @@ impl Slot {
         let hold = self.hold;
         match hold {
             Hold::Empty => false,
-            Hold::Live(call) => {
+            Hold::Live(call, _) => {
                 if call.vpci == vpci {
                     return call.vci == vci;
                 }
@@ -178,7 +181,7 @@ impl Slot {
                 let none = Channel::None;
                 Entry { channel: none }
             }
-            Hold::Live(call) => {
+            Hold::Live(call, _) => {
                 let pair = Channel::Pair(call.vpci, call.vci);
                 Entry { channel: pair }
             }
@@ -192,35 +195,25 @@ impl Slot {
         let hold = self.hold;
         match hold {
             Hold::Empty => Due::Never,
-            Hold::Live(call) => {
-                let phase = call.phase;
-                phase.due()
-            }
+            Hold::Live(_, state) => state.due(),
         }
     }
 
-    pub fn is_due(self, now: u64) -> bool
-        ensures { λ r. ⌜ r ≡ isDue now self ⌝ }
+    // If it holds a call on a pair that is named.
+    pub fn is_named(self, named: Named) -> bool
+        ensures { λ r. ⌜ r ≡ isNamed named self ⌝ }
     {
-        let due = self.due();
-        due.by(now)
-    }
-
-    // Emptied if it holds the pair.
-    pub fn without_pair(self, vpci: u16, vci: u16) -> Slot
-        ensures { λ r. ⌜ r ≡ emptied (holdsPair vpci vci) self ⌝ }
-    {
-        if self.holds_pair(vpci, vci) {
-            return Slot::empty();
+        match named {
+            Named::All => self.is_live(),
+            Named::Pair(vpci, vci) => self.holds_pair(vpci, vci),
         }
-        self
     }
 
-    // Emptied if it holds a call.
-    pub fn without_call(self) -> Slot
-        ensures { λ r. ⌜ r ≡ emptied isLive self ⌝ }
+    // Emptied if it is named.
+    pub fn unless_named(self, named: Named) -> Slot
+        ensures { λ r. ⌜ r ≡ emptied (isNamed named) self ⌝ }
     {
-        if self.is_live() {
+        if self.is_named(named) {
             return Slot::empty();
         }
         self

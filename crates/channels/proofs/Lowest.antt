@@ -3,25 +3,19 @@
 --   lowest-none         if none is found, t names every pair of every range
 --   none-lowest         and the other way round
 --   lowest-same         two tests that agree on every pair have one answer
--- And of a pool, where t is `taken`:
---   free-permitted      a pair that is found is permitted, no live call holds it, and it is not in doubt
---   none-free           if none is found, each permitted pair is held or in doubt
---   none-left           and the other way round
 -- Assumes nothing.
 use Prim.Native.Nat.{ℕ, zero, suc, _+_, _-_, _≤_, _<_}
 use mathlib.Core.Path.{_≡_, refl, ap, _∙_, fun-ext}
 use mathlib.Core.Logic.{_⊎_, inl, inr, ⊎-elim}
-use mathlib.Core.Bool.{Bool, true, false, _||_, or-true, or-false}
+use mathlib.Core.Bool.{Bool, true, false, or-true}
 use mathlib.Core.List.{List, [], _∷_}
 use native.Mathlib.Omega.{arith}
 use lib.Dec.{eqb, leb}
 use borrow.Author.Tests.{eqb-true, eqb-false, leb-true, eq-eqb, le-leb}
-use Rattle.channels.specs.Channels.{scan, lowest, inRange, inRanges, among, permanent, permitted, taken}
+use Rattle.channels.specs.Channels.{scan, lowest, inRange, inRanges}
 use Rattle.channels.specs.declared.Channel.{Channel}
 use Rattle.channels.specs.declared.Channel.the-variants.{None, Pair}
-use Rattle.channels.specs.declared.Entry.{Entry}
 use Rattle.channels.specs.declared.Range.{Range}
-use Rattle.channels.specs.declared.Pool.{Pool}
 use Rattle.channels.proofs.Cases.{by-test, clash}
 
 -- the pair (p, v) is among the n VCIs from w of VPCI q, and t does not name it
@@ -104,37 +98,3 @@ none-lowest t (r ∷ rs) h =
 
 pub lowest-same : (t u : ℕ → ℕ → Bool) (rs : List Range) → ((p v : ℕ) → t p v ≡ u p v) → lowest t rs ≡ lowest u rs
 lowest-same t u rs h = ap (λ (s : ℕ → ℕ → Bool). lowest s rs) (fun-ext (λ p. fun-ext (λ v. h p v)))
-
-module _ (held doubts : List Entry) (pool : Pool) where
-  abbrev lowestFree : Channel
-  lowestFree = lowest (taken held doubts (pool .permanents)) (pool .ranges)
-
-  pub free-permitted : (p v : ℕ) → lowestFree ≡ Pair p v → (permitted pool p v ≡ true) × (among p v held ≡ false) × (among p v doubts ≡ false)
-  free-permitted p v e =
-      let l = lowest-free (taken held doubts (pool .permanents)) (pool .ranges) p v e in
-      by-test (among p v held)
-      (λ t. clash (rw t) (l .1))
-      (λ t. by-test (among p v doubts)
-      (λ d. clash (rw (t, d)) (l .1))
-      (λ d. by-test (permanent pool p v)
-      (λ u. clash (rw (t, d, u)) (l .1))
-      (λ u. (rw (l .0, u), t, d))))
-
-  pub none-free : lowestFree ≡ None → (p v : ℕ) → permitted pool p v ≡ true → (among p v held || among p v doubts) ≡ true
-  none-free e p v h =
-      by-test (inRanges p v (pool .ranges))
-      (λ t. by-test (permanent pool p v)
-      (λ u. clash h (rw (t, u)))
-      (λ u. by-test (among p v held)
-      (λ w. rw w)
-      (λ w. by-test (among p v doubts)
-      (λ d. rw (w, d))
-      (λ d. clash (lowest-none (taken held doubts (pool .permanents)) (pool .ranges) e p v t) (rw (w, d, u))))))
-      (λ t. clash h (rw t))
-
-  pub none-left : ((p v : ℕ) → permitted pool p v ≡ true → (among p v held || among p v doubts) ≡ true) → lowestFree ≡ None
-  none-left h =
-      none-lowest (taken held doubts (pool .permanents)) (pool .ranges)
-      (λ p v t. by-test (permanent pool p v)
-      (λ u. rw (u, or-true (among p v doubts)) (or-true (among p v held)))
-      (λ u. rw (u, or-false (among p v doubts)) (h p v (rw (t, u)))))

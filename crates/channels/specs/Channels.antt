@@ -1,8 +1,8 @@
--- Channels: what is permitted, what is taken, and the lowest free pair.
+-- Channels: what is permitted, and the lowest free pair.
+--   rangeCount, permanentCount  how many ranges and permanent pairs there can be
 --   isPair, isEntry, among      if a channel, an entry, or some entry of a list is the pair of VPCI p and VCI v
 --   inRange, inRanges           if a range, or some range of a list, has the pair
 --   permanent, permitted        of a pool
---   taken                       a pair that is not to be assigned
 --   scan, lowest                the lowest pair of a list of ranges that a test does not name as taken
 --   knownVpci                   if a VPCI stands in a range or in a permanent pair
 --   emptyPool                   the pool that permits nothing
@@ -18,6 +18,13 @@ use Rattle.channels.specs.declared.Channel.the-variants.{None, Pair}
 use Rattle.channels.specs.declared.Entry.{Entry}
 use Rattle.channels.specs.declared.Range.{Range}
 use Rattle.channels.specs.declared.Pool.{Pool}
+
+-- "1 to 4 ranges, 0 to 8 pairs"
+abbrev pub rangeCount : ℕ
+rangeCount = 4
+
+abbrev pub permanentCount : ℕ
+permanentCount = 8
 
 -- a pair is a VPCI and a VCI
 abbrev pub isPair : ℕ → ℕ → Channel → Bool
@@ -43,10 +50,6 @@ permanent pool p v = among p v (pool .permanents)
 
 abbrev pub permitted : Pool → ℕ → ℕ → Bool
 permitted pool p v = inRanges p v (pool .ranges) && not (permanent pool p v)
-
--- not to be assigned: a live call holds the pair, it is in doubt, or it is permanent
-abbrev pub taken : List Entry → List Entry → List Entry → ℕ → ℕ → Bool
-taken held doubts permanents p v = among p v held || (among p v doubts || among p v permanents)
 
 -- "lowest free permitted pair by VPCI and then VCI": the first of n VCIs from v that is not taken, or else the answer of the ranges behind
 abbrev pub scan : (ℕ → ℕ → Bool) → ℕ → ℕ → ℕ → Channel → Channel
@@ -85,4 +88,4 @@ abbrev pub noEntry : Entry
 noEntry = record { channel = None }
 
 abbrev pub emptyPool : Pool
-emptyPool = record { ranges = replicate 4 noRange; permanents = replicate 8 noEntry }
+emptyPool = record { ranges = replicate rangeCount noRange; permanents = replicate permanentCount noEntry }

@@ -1,11 +1,11 @@
 // Channels: permitted ranges, permanent pairs, and a pair.
+//   RANGES, PERMANENTS        how many ranges and permanent pairs there can be
 //   Channel, Entry, Range     a pair of VPCI and VCI or none, one entry of a list of them, one permitted range
-//   Pool, Held                what start permits; the pairs that live calls hold, one entry for each slot
+//   Pool, Named               what start permits; the pairs that a RESTART names
 //   Entry::is                 if an entry is a pair
 //   Entry::is_none            if an entry has no pair
 //   Entry::is_before          the order of entries by VPCI and then VCI
 //   Range::unused             the range without a VCI
-//   Held::holds               if a live call holds a pair
 //   Pool::is_permanent        if a pair is permanent
 //   Pool::permits             if a pair is in a range and not permanent
 //   Pool::knows_vpci          if a VPCI stands in a range or in a permanent pair
@@ -14,6 +14,10 @@
 ghost use mathlib.Core.Path.{_≡_};
 ghost use Rattle.channels.specs.Order.{isNone, entryBefore};
 ghost use Rattle.channels.specs.Channels.{isEntry, among, inRange, inRanges, permitted, spansVpci, namesVpci, spannedVpci, namedVpci, knownVpci, noRange, emptyPool};
+
+pub const RANGES: usize = 4;
+
+pub const PERMANENTS: usize = 8;
 
 // A VPCI and a VCI, or none.
 pub enum Channel {
@@ -35,13 +39,14 @@ pub struct Range {
 
 // What start permits. An unused permanent pair is none.
 pub struct Pool {
-    pub ranges: [Range; 4],
-    pub permanents: [Entry; 8],
+    pub ranges: [Range; RANGES],
+    pub permanents: [Entry; PERMANENTS],
 }
 
-// The pairs that live calls hold, one entry for each slot.
-pub struct Held {
-    pub entries: [Entry; 32],
+// The pairs that a RESTART names: all, or the pair of a VPCI and a VCI.
+pub enum Named {
+    All,
+    Pair(u16, u16),
 }
 
 impl Entry {
@@ -137,22 +142,6 @@ impl Range {
     }
 }
 
-impl Held {
-    pub fn holds(self, vpci: u16, vci: u16) -> bool
-        ensures { λ r. ⌜ r ≡ among vpci vci (self .entries) ⌝ }
-    {
-        let mut i: usize = 0;
-        while i < 32 {
-            let e = self.entries[i];
-            if e.is(vpci, vci) {
-                return true;
-            }
-            i += 1;
-        }
-        false
-    }
-}
-
 impl Pool {
     // No range is used, and no pair is permanent.
     pub fn empty() -> Pool
@@ -162,8 +151,8 @@ impl Pool {
         let entry = Entry {
             channel: Channel::None,
         };
-        let ranges = [range; 4];
-        let permanents = [entry; 8];
+        let ranges = [range; RANGES];
+        let permanents = [entry; PERMANENTS];
         Pool {
             ranges: ranges,
             permanents: permanents,
@@ -174,7 +163,7 @@ impl Pool {
         ensures { λ r. ⌜ r ≡ among vpci vci (self .permanents) ⌝ }
     {
         let mut i: usize = 0;
-        while i < 8 {
+        while i < PERMANENTS {
             let e = self.permanents[i];
             if e.is(vpci, vci) {
                 return true;
@@ -189,7 +178,7 @@ impl Pool {
         ensures { λ r. ⌜ r ≡ inRanges vpci vci (self .ranges) ⌝ }
     {
         let mut i: usize = 0;
-        while i < 4 {
+        while i < RANGES {
             let range = self.ranges[i];
             if range.has(vpci, vci) {
                 return true;
@@ -212,7 +201,7 @@ impl Pool {
         ensures { λ r. ⌜ r ≡ spannedVpci vpci (self .ranges) ⌝ }
     {
         let mut i: usize = 0;
-        while i < 4 {
+        while i < RANGES {
             let range = self.ranges[i];
             if range.spans_vpci(vpci) {
                 return true;
@@ -226,7 +215,7 @@ impl Pool {
         ensures { λ r. ⌜ r ≡ namedVpci vpci (self .permanents) ⌝ }
     {
         let mut i: usize = 0;
-        while i < 8 {
+        while i < PERMANENTS {
             let e = self.permanents[i];
             if e.names_vpci(vpci) {
                 return true;

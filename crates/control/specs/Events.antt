@@ -1,29 +1,34 @@
 -- The six events (document 01, "One school, network side" and "Host and timers").
 --   startOf, messageOf, tickOf, connectOf, clearOf, offerOf
---   heardBy, offered     what an accepted message does; an offer with its slot
+--   heardBy              what an accepted message does
+--   offeredAt, offered   what an offer does: with a slot and a pair, with a slot
 -- Each event is the whole answer, the table and the reply, on any input. What is refused is in refusals, what connect, clear and offer
 -- do in commands. Assumes nothing.
 use Prim.Native.Nat.{ℕ}
-use mathlib.Core.Bool.{cond}
-use mathlib.Core.List.{List}
+use mathlib.Core.Bool.{cond, false}
+use mathlib.Core.List.{List, []}
 use lib.ListN.{replicate}
-use Rattle.doubts.specs.Doubts.{noDoubts}
+use Rattle.channels.specs.declared.Channel.{Channel}
+use Rattle.channels.specs.declared.Channel.the-variants.{None, Pair}
+use Rattle.pairs.specs.Pairs.{noPairs}
 use Rattle.provisioning.specs.Provisioning.{provision}
 use Rattle.calls.specs.Calls.{noSlot, isEmpty}
 use Rattle.first.specs.declared.Found.{Found}
 use Rattle.first.specs.declared.Found.the-variants.{Nothing, At}
 use Rattle.first.specs.First.{place}
+use Rattle.slots.specs.Slots.{slotCount, holdAt, unusedReference}
 use Rattle.slots.specs.Timers.{someDue}
 use Rattle.header.specs.declared.Head.{Head}
 use Rattle.header.specs.declared.Head.the-variants.{Ignored, Is}
 use Rattle.header.specs.Header.{headOf}
 use Rattle.effects.specs.declared.Effect.{Effect}
-use Rattle.effects.specs.Effect.{slotCount, quiet}
+use Rattle.effects.specs.Change.{slotsAfter}
+use Rattle.effects.specs.Effect.{quiet}
 use Rattle.table.specs.declared.Table.{Table}
 use Rattle.table.specs.Effects.{freePair, messageEffect, tickEffect}
 use Rattle.outcome.specs.declared.Started.{Started}
-use Rattle.refusals.specs.Refusals.{messageRefusal, commonRefusal, connectRefusal, clearRefusal, offerRefusal, holdAt}
-use Rattle.outcome.specs.Outcome.{Outcome, refusedWith, sending, acceptedAs, effectReply, unlessRefused}
+use Rattle.refusals.specs.Refusals.{messageRefusal, commonRefusal, connectRefusal, clearRefusal, offerRefusal}
+use Rattle.outcome.specs.Outcome.{Outcome, sending, acceptedAs, unlessRefused}
 use Rattle.commands.specs.Commands.{connected, cleared, offeredOn}
 
 -- "start takes permitted ranges .. and permanent pairs"; "the last accepted reading, 0 at start"; "A refused start gives no table to use."
@@ -32,42 +37,48 @@ startOf ranges pairs = record {
   refusal = cond (provision ranges pairs .accepted) 0 9;
   table = record {
     slots = record { all = replicate slotCount noSlot };
-    doubts = noDoubts;
     last = 0;
+    doubts = noPairs;
     pool = provision ranges pairs .pool;
   };
 }
 
 -- steps 1 and 2: "ignored"; "An accepted event stores its reading, even where the message is ignored."
 abbrev pub heardBy : Table → ℕ → List ℕ → Head → Effect
-heardBy t reading m Ignored = quiet (t .slots)
+heardBy t reading m Ignored = quiet
 heardBy t reading m (Is h) = messageEffect t m h reading
 
 abbrev pub messageOf : Table → ℕ → ℕ → ℕ → List ℕ → Outcome
 messageOf t label reading room m =
-    unlessRefused t (messageRefusal t label reading room m) (acceptedAs t reading (heardBy t reading m (headOf m)))
+    unlessRefused t (messageRefusal (t .last) label reading room m) (acceptedAs t reading (heardBy t reading m (headOf m)))
 
 -- "says if another is due afterwards (refused: no)"
 abbrev pub tickOf : Table → ℕ → ℕ → ℕ → Outcome
 tickOf t label reading room =
-    unlessRefused t (commonRefusal t label reading room)
-    (sending t reading (tickEffect t reading) (someDue reading (tickEffect t reading .slots .all)) (effectReply (tickEffect t reading)))
+    unlessRefused t (commonRefusal (t .last) label reading room)
+    (sending t reading (tickEffect t reading) (someDue reading (slotsAfter (tickEffect t reading .change) (t .slots) .all)) [])
 
 -- "connect a slot"
 abbrev pub connectOf : Table → ℕ → ℕ → ℕ → ℕ → Outcome
 connectOf t label reading room slot =
-    unlessRefused t (connectRefusal t label reading room slot) (acceptedAs t reading (connected t slot (holdAt t slot)))
+    unlessRefused t (connectRefusal (t .last) label reading room (holdAt (t .slots .all) slot)) (acceptedAs t reading (connected slot (holdAt (t .slots .all) slot)))
 
 -- "clear a slot with a cause"
 abbrev pub clearOf : Table → ℕ → ℕ → ℕ → ℕ → ℕ → Outcome
 clearOf t label reading room slot cause =
-    unlessRefused t (clearRefusal t label reading room slot cause) (acceptedAs t reading (cleared t reading slot cause (holdAt t slot)))
+    unlessRefused t (clearRefusal (t .last) label reading room (holdAt (t .slots .all) slot) cause)
+    (acceptedAs t reading (cleared reading slot cause (holdAt (t .slots .all) slot)))
 
--- "offer: lowest empty slot, lowest free pair" (no slot was refused before, with 11: this case is never asked)
-abbrev pub offered : Table → ℕ → List ℕ → Found → Outcome
-offered t reading body Nothing = refusedWith t 11
-offered t reading body (At i) = offeredOn t reading body i (freePair t)
+-- "offer: lowest empty slot, lowest free pair, lowest network-originated reference value from 1 not in use" (no slot or no pair was
+-- refused before, with 11 and 12: these cases are never asked)
+abbrev pub offeredAt : Table → ℕ → ℕ → Channel → Effect
+offeredAt t reading i None = quiet
+offeredAt t reading i (Pair p v) = offeredOn reading i (unusedReference (t .slots .all)) p v
+
+abbrev pub offered : Table → ℕ → Found → Effect
+offered t reading Nothing = quiet
+offered t reading (At i) = offeredAt t reading i (freePair t)
 
 abbrev pub offerOf : Table → ℕ → ℕ → ℕ → List ℕ → Outcome
 offerOf t label reading room body =
-    unlessRefused t (offerRefusal t label reading room body) (offered t reading body (place isEmpty (t .slots .all)))
+    unlessRefused t (offerRefusal t label reading room body) (sending t reading (offered t reading (place isEmpty (t .slots .all))) false body)

@@ -8,17 +8,18 @@
 // No event has a `requires`: what is wrong with its input is refused by its number. A reply fills the front of the lent
 // room; octets behind it are unchanged. Assumes nothing.
 use channels::Channel;
-use doubts::Doubts;
 use effects::Effect;
 use first::Found;
 use header::Head;
 use outcome::Answer;
 use outcome::Started;
+use pairs::Pairs;
 use slots::Slots;
 use table::Table;
 ghost use mathlib.Core.Path.{_≡_};
 ghost use Prim.Native.Nat.{_≤_};
 ghost use lib.ListN.{length};
+ghost use Rattle.calls.specs.Timers.{largestReading};
 ghost use Rattle.octets.specs.Octets.{front};
 ghost use Rattle.header.specs.Header.{headOf};
 ghost use Rattle.control.specs.Events.{startOf, heardBy, messageOf, tickOf, connectOf, clearOf, offerOf};
@@ -30,11 +31,11 @@ pub fn start(ranges: &[u16], pairs: &[u16]) -> Started
     let provision = provisioning::pool_of(ranges, pairs);
     let pool = provision.pool;
     let slots = Slots::fresh();
-    let doubts = Doubts::none();
+    let doubts = Pairs::none();
     let table = Table {
         slots: slots,
-        doubts: doubts,
         last: 0,
+        doubts: doubts,
         pool: pool,
     };
     if provision.accepted {
@@ -51,12 +52,11 @@ pub fn start(ranges: &[u16], pairs: &[u16]) -> Started
 
 // What an accepted message does.
 fn hear(table: Table, reading: u64, m: &[u8]) -> Effect
-    requires { ⌜ reading ≤ 4000000000000 ⌝ }
+    requires { ⌜ reading ≤ largestReading ⌝ }
     ensures { λ r. ⌜ r ≡ heardBy table reading (now (m .entry)) (headOf (now (m .entry))) ⌝ }
 {
-    let slots = table.slots;
     match header::read(m) {
-        Head::Ignored => effects::quiet(slots),
+        Head::Ignored => effects::quiet(),
         Head::Is(head) => table.heard(m, head, reading),
     }
 }
@@ -66,12 +66,12 @@ pub fn message(table: Table, label: u64, reading: u64, room: &mut [u8], m: &[u8]
     ensures { λ r. ⌜ (r ≡ messageOf table label reading (length (now (room .entry))) (now (m .entry)) .answer)
         × (now (room .exit) ≡ front (messageOf table label reading (length (now (room .entry))) (now (m .entry)) .reply) (now (room .entry))) ⌝ }
 {
-    let n = refusals::message_refusal(table, label, reading, room.len(), m);
+    let n = refusals::message_refusal(table.last, label, reading, room.len(), m);
     if n != 0 {
         return outcome::refuse(table, n);
     }
     let effect = hear(table, reading, m);
-    outcome::accept(table, reading, effect, false, room)
+    outcome::accept(table, reading, effect, false, b"", room)
 }
 
 // The clock: fires at most one due timer.
@@ -79,14 +79,13 @@ pub fn tick(table: Table, label: u64, reading: u64, room: &mut [u8]) -> Answer
     ensures { λ r. ⌜ (r ≡ tickOf table label reading (length (now (room .entry))) .answer)
         × (now (room .exit) ≡ front (tickOf table label reading (length (now (room .entry))) .reply) (now (room .entry))) ⌝ }
 {
-    let n = refusals::common_refusal(table, label, reading, room.len());
+    let n = refusals::common_refusal(table.last, label, reading, room.len());
     if n != 0 {
         return outcome::refuse(table, n);
     }
-    let effect = table.fire(reading);
-    let after = effect.slots;
-    let more = after.some_due(reading);
-    outcome::accept(table, reading, effect, more, room)
+    let fired = table.fire(reading);
+    let effect = fired.effect;
+    outcome::accept(table, reading, effect, fired.more, b"", room)
 }
 
 // The host answers the call of a slot.
@@ -94,12 +93,14 @@ pub fn connect(table: Table, label: u64, reading: u64, room: &mut [u8], slot: u6
     ensures { λ r. ⌜ (r ≡ connectOf table label reading (length (now (room .entry))) slot .answer)
         × (now (room .exit) ≡ front (connectOf table label reading (length (now (room .entry))) slot .reply) (now (room .entry))) ⌝ }
 {
-    let n = refusals::connect_refusal(table, label, reading, room.len(), slot);
+    let slots = table.slots;
+    let hold = slots.hold_at(slot);
+    let n = refusals::connect_refusal(table.last, label, reading, room.len(), hold);
     if n != 0 {
         return outcome::refuse(table, n);
     }
-    let effect = commands::connect_call(table, slot as usize);
-    outcome::accept(table, reading, effect, false, room)
+    let effect = commands::connect_call(slot as usize, hold);
+    outcome::accept(table, reading, effect, false, b"", room)
 }
 
 // The host ends the call of a slot.
@@ -114,12 +115,14 @@ pub fn clear(
     ensures { λ r. ⌜ (r ≡ clearOf table label reading (length (now (room .entry))) slot cause .answer)
         × (now (room .exit) ≡ front (clearOf table label reading (length (now (room .entry))) slot cause .reply) (now (room .entry))) ⌝ }
 {
-    let n = refusals::clear_refusal(table, label, reading, room.len(), slot, cause);
+    let slots = table.slots;
+    let hold = slots.hold_at(slot);
+    let n = refusals::clear_refusal(table.last, label, reading, room.len(), hold, cause);
     if n != 0 {
         return outcome::refuse(table, n);
     }
-    let effect = commands::clear_call(table, reading, slot as usize, cause as u8);
-    outcome::accept(table, reading, effect, false, room)
+    let effect = commands::clear_call(reading, slot as usize, hold, cause as u8);
+    outcome::accept(table, reading, effect, false, b"", room)
 }
 
 // The host offers a call to the user.
@@ -127,7 +130,7 @@ pub fn offer(table: Table, label: u64, reading: u64, room: &mut [u8], body: &[u8
     ensures { λ r. ⌜ (r ≡ offerOf table label reading (length (now (room .entry))) (now (body .entry)) .answer)
         × (now (room .exit) ≡ front (offerOf table label reading (length (now (room .entry))) (now (body .entry)) .reply) (now (room .entry))) ⌝ }
 {
-    let n = refusals::common_refusal(table, label, reading, room.len());
+    let n = refusals::common_refusal(table.last, label, reading, room.len());
     if n != 0 {
         return outcome::refuse(table, n);
     }
@@ -140,15 +143,11 @@ pub fn offer(table: Table, label: u64, reading: u64, room: &mut [u8], body: &[u8
         Found::Nothing => outcome::refuse(table, 11),
         Found::At(i) => match table.free_pair() {
             Channel::None => outcome::refuse(table, 12),
-            Channel::Pair(vpci, vci) => commands::send_setup(
-                table,
-                reading,
-                room,
-                body,
-                i,
-                vpci,
-                vci,
-            ),
+            Channel::Pair(vpci, vci) => {
+                let reference = slots.unused_reference();
+                let effect = commands::offer_call(reading, i, reference, vpci, vci);
+                outcome::accept(table, reading, effect, false, body, room)
+            }
         },
     }
 }

@@ -5,38 +5,38 @@ use Prim.Native.Nat.{_≤_, _<_}
 use mathlib.Core.Path.{_≡_, _∙_}
 use mathlib.Core.Logic.{_≢_}
 use borrow.Author.Tests.{ne-eqb, eq-eqb, lt-ltb, le-ltb}
+use Rattle.calls.specs.Timers.{largestReading}
+use Rattle.replies.specs.Reply.{replyRoom}
 use Rattle.table.specs.declared.Table.{Table}
 use Rattle.control.specs.Happens.{Event}
 use Rattle.independence.proofs.Independence.{calls-do-not-lean}
 use Rattle.independence.proofs.Leaning.{setups-lean, setup-release-lean, one-reference-leans}
+use Rattle.views.specs.Effects.{labelOf, readingOf, roomOf, refusalOf}
 use Rattle.safety.specs.SmallTable.{SmallTable}
-use Rattle.safety.specs.FixedAnswers.{labelOf, readingOf, roomOf}
 use Rattle.safety.proofs.SmallTable as small
-use Rattle.safety.proofs.Refusals.{refusalOf}
 use Rattle.safety.proofs.FixedAnswers.{fixed-answer, number}
 use Rattle.safety.proofs.FixedStart.{fixed-start}
 use Rattle.safety.proofs.Sound.{reached-sound, never-shared, always-permitted, always-in-limits}
 use Rattle.safety.proofs.Flags.{flags-exact}
 use Rattle.safety.proofs.NoPair.{sent-exactly, no-pair-exactly}
-use Rattle.safety.proofs.Gone.{held-until-gone}
-use Rattle.safety.proofs.Release.{release-frees-none}
+use Rattle.safety.proofs.Gone.{held-until-gone, release-frees-none}
 use Rattle.safety.proofs.Slips.{not-handed-out, released-holds, one-side, setup-is-new, both-ones, duplicate-ignored, no-status-for-status, permanent-stays}
 use Rattle.demands.specs.Demands.{RefusedByNumber, DemandOne, DemandTwo, DemandThree, SlipsShutOut}
 use Rattle.demands.proofs.Sent.{every-reply-reads-back, every-reply-is-octets, every-reply-is-short}
 
 module _ (t : Table) (e : Event) where
-  label-number : 1024 ≤ roomOf e → labelOf e ≢ 1 → refusalOf t e ≡ 2
-  label-number room label = rw (le-ltb (roomOf e) 1024 room, ne-eqb (labelOf e) 1 label)
+  label-number : replyRoom ≤ roomOf e → labelOf e ≢ 1 → refusalOf t e ≡ 2
+  label-number room label = rw (le-ltb (roomOf e) replyRoom room, ne-eqb (labelOf e) 1 label)
 
-  large-number : 1024 ≤ roomOf e → labelOf e ≡ 1 → 4000000000000 < readingOf e → refusalOf t e ≡ 3
-  large-number room label above = rw (le-ltb (roomOf e) 1024 room, eq-eqb (labelOf e) 1 label, lt-ltb 4000000000000 (readingOf e) above)
+  large-number : replyRoom ≤ roomOf e → labelOf e ≡ 1 → largestReading < readingOf e → refusalOf t e ≡ 3
+  large-number room label above = rw (le-ltb (roomOf e) replyRoom room, eq-eqb (labelOf e) 1 label, lt-ltb largestReading (readingOf e) above)
 
-  early-number : 1024 ≤ roomOf e → labelOf e ≡ 1 → readingOf e ≤ 4000000000000 → readingOf e < t .last → refusalOf t e ≡ 4
+  early-number : replyRoom ≤ roomOf e → labelOf e ≡ 1 → readingOf e ≤ largestReading → readingOf e < t .last → refusalOf t e ≡ 4
   early-number room label most early =
       rw (
-        le-ltb (roomOf e) 1024 room,
+        le-ltb (roomOf e) replyRoom room,
         eq-eqb (labelOf e) 1 label,
-        le-ltb 4000000000000 (readingOf e) most,
+        le-ltb largestReading (readingOf e) most,
         lt-ltb (readingOf e) (t .last) early,
       )
 

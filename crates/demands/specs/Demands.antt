@@ -12,15 +12,19 @@ use mathlib.Core.Bool.{true}
 use mathlib.Core.List.{List, [], _∷_}
 use lib.ListN.{length}
 use Rattle.channels.specs.Channels.{permitted}
+use Rattle.calls.specs.declared.State.{State}
 use Rattle.calls.specs.declared.Call.{Call}
+use Rattle.calls.specs.Timers.{largestReading}
+use Rattle.replies.specs.Reply.{replyRoom}
 use Rattle.readback.specs.ReadBack.{Octets}
 use Rattle.table.specs.declared.Table.{Table}
 use Rattle.control.specs.Happens.{Event, happens}
-use Rattle.reload.specs.Reached.{Reached}
+use Rattle.reached.specs.Reached.{Reached}
 use Rattle.independence.specs.Independence.{CallsDoNotLean}
 use Rattle.independence.specs.Leaning.{setup, release, enquiry, onePair, held, Leans}
-use Rattle.safety.specs.Tables.{HasCall}
-use Rattle.safety.specs.FixedAnswers.{labelOf, readingOf, roomOf, FixedAnswer, FixedStart}
+use Rattle.views.specs.Tables.{HasCall}
+use Rattle.views.specs.Effects.{labelOf, readingOf, roomOf}
+use Rattle.safety.specs.FixedAnswers.{FixedAnswer, FixedStart}
 use Rattle.safety.specs.Sound.{Sound, InOctets, CarriedOctets}
 use Rattle.safety.specs.Flags.{FlagsExact}
 use Rattle.safety.specs.NoPair.{NoPairExactly, SentExactly}
@@ -30,9 +34,9 @@ use Rattle.demands.specs.Sent.{readBack, meantBy}
 -- "A reading with the wrong label, too large, or earlier than the last accepted one is refused by its number.": "The lowest number
 -- that applies is given"
 pub record RefusedByNumber (t : Table) (e : Event) : Type 0 where
-  pub wrong-label : 1024 ≤ roomOf e → labelOf e ≢ 1 → happens t e .answer .refusal ≡ 2
-  pub too-large : 1024 ≤ roomOf e → labelOf e ≡ 1 → 4000000000000 < readingOf e → happens t e .answer .refusal ≡ 3
-  pub too-early : 1024 ≤ roomOf e → labelOf e ≡ 1 → readingOf e ≤ 4000000000000 → readingOf e < t .last → happens t e .answer .refusal ≡ 4
+  pub wrong-label : replyRoom ≤ roomOf e → labelOf e ≢ 1 → happens t e .answer .refusal ≡ 2
+  pub too-large : replyRoom ≤ roomOf e → labelOf e ≡ 1 → largestReading < readingOf e → happens t e .answer .refusal ≡ 3
+  pub too-early : replyRoom ≤ roomOf e → labelOf e ≡ 1 → readingOf e ≤ largestReading → readingOf e < t .last → happens t e .answer .refusal ≡ 4
 
 -- 1. "Any octets, any clock reading and any host command get a fixed answer. A reading with the wrong label, too large, or earlier
 -- than the last accepted one is refused by its number. A refusal sends nothing and changes neither the call table nor one octet
@@ -53,12 +57,12 @@ pub record DemandTwo : Type 0 where
   -- "What we write reads back as the same message.": where the messages, the offers' bodies and a saved form were octets
   pub reads-back : (t : Table) (r : Reached t) → CarriedOctets t r → (e : Event) → InOctets e → readBack (happens t e .reply) ≡ meantBy t e
   pub writes-octets : (t : Table) (r : Reached t) → CarriedOctets t r → (e : Event) → InOctets e → Octets (happens t e .reply)
-  pub writes-few : (t : Table) (e : Event) → length (happens t e .reply) ≤ 1024
+  pub writes-few : (t : Table) (e : Event) → length (happens t e .reply) ≤ replyRoom
   -- "No two live calls hold one VPCI/VCI pair"
-  pub never-shared : (t : Table) → Reached t → (i j : ℕ) (c d : Call) → HasCall t i c → HasCall t j d → c .vpci ≡ d .vpci → c .vci ≡ d .vci → i ≡ j
+  pub never-shared : (t : Table) → Reached t → (i j : ℕ) (c d : Call) (q r : State) → HasCall t i c q → HasCall t j d r → c .vpci ≡ d .vpci → c .vci ≡ d .vci → i ≡ j
   -- "every assigned VCI lies in 32 to 65535"
-  pub always-in-limits : (t : Table) → Reached t → (i : ℕ) (c : Call) → HasCall t i c → (32 ≤ c .vci) × (c .vci ≤ 65535)
-  pub always-permitted : (t : Table) → Reached t → (i : ℕ) (c : Call) → HasCall t i c → permitted (t .pool) (c .vpci) (c .vci) ≡ true
+  pub always-in-limits : (t : Table) → Reached t → (i : ℕ) (c : Call) (q : State) → HasCall t i c q → (32 ≤ c .vci) × (c .vci ≤ 65535)
+  pub always-permitted : (t : Table) → Reached t → (i : ℕ) (c : Call) (q : State) → HasCall t i c q → permitted (t .pool) (c .vpci) (c .vci) ≡ true
   -- ""no VPCI/VCI available" is sent exactly when a SETUP has passed all earlier checks and no permitted pair is free."
   pub sent-exactly : (t : Table) → Reached t → (e : Event) → SentExactly t e
   pub no-pair-exactly : (t : Table) (label reading room : ℕ) (m : List ℕ) → NoPairExactly t label reading room m
@@ -70,7 +74,8 @@ pub record DemandTwo : Type 0 where
 -- message gets the same answer and the final table is the same, all as document 01 defines them."
 pub record DemandThree : Type 0 where
   pub calls-do-not-lean : CallsDoNotLean
-  -- each part of the order rule is needed: lists of two messages that may not change places
+  -- lists of two messages that may not change places: two SETUPs; a RELEASE, and a SETUP on another reference; a STATUS ENQUIRY
+  -- and a RELEASE on one reference
   pub setups-lean : Leans onePair 0 (setup 1 ∷ setup 2 ∷ []) (1 ∷ 0 ∷ []) (setup 1)
   pub setup-release-lean : Leans held 0 (release 1 ∷ setup 2 ∷ []) (1 ∷ 0 ∷ []) (setup 2)
   pub one-reference-leans : Leans held 0 (enquiry 1 ∷ release 1 ∷ []) (1 ∷ 0 ∷ []) (enquiry 1)

@@ -11,8 +11,8 @@ use mathlib.Core.List.{List, [], _∷_}
 use Rattle.elements.proofs.Examples.{setup}
 use Rattle.ascii.specs.Ascii.{word, decimalText}
 use Rattle.calls.specs.Calls.{noSlot}
-use Rattle.calls.specs.declared.Phase.{Phase}
-use Rattle.calls.specs.declared.Phase.the-variants.{N3, N10, N12}
+use Rattle.calls.specs.declared.State.{State}
+use Rattle.calls.specs.declared.State.the-variants.{N3, N10, N12}
 use Rattle.calls.specs.declared.Hold.the-variants.{Live}
 use Rattle.calls.specs.declared.Slot.{Slot}
 use Rattle.script.specs.declared.Request.the-variants.{Tick, Message, Clear}
@@ -20,8 +20,8 @@ use Rattle.explain.specs.Names.{nameIn, kindNames, causeNames, refusalNa
 use Rattle.explain.specs.Line.{lineText}
 
 -- the first class's call
-abbrev held : Phase → Slot
-held phase = record { hold = Live (record { network = false; reference = 1; vpci = 0; vci = 32; phase = phase }) }
+abbrev held : State → Slot
+held state = record { hold = Live (record { network = false; vpci = 0; vci = 32; reference = 1 }) state }
 
 abbrev proceeding : List ℕ
 proceeding =
@@ -35,8 +35,8 @@ pub setup-line : lineText (Message 45) setup 0 proceeding (noSlot ∷ noSlot ∷
 unfolding decimalText nameIn kindNames causeNames refusalNames
 setup-line = refl
 
-abbrev clearing : Phase
-clearing = N12 (record { deadline = 2730000; second = false; cause = 16; expired = false })
+abbrev clearing : State
+clearing = N12 (record { second = false; cause = 16; expired = false }) 2730000
 
 pub clear-line : lineText (Clear 0 16) [] 0 release (held N10 ∷ noSlot ∷ []) (held clearing ∷ noSlot ∷ [])
     ≡ word "# in clear slot 0 cause 16 normal call clearing; out RELEASE flag 1 reference 1 cause 16 normal call clearing; slot 0 N10 VPCI 0 VCI 32 to N12 VPCI 0 VCI 32 T308 until 2730000\n"

@@ -23,9 +23,9 @@ pub shown-none : (request : Request) (came : List ℕ) (before after : List Slot
 shown-none request came before after old at = record { so-far = begun-none _ _ _ }
 
 module _ {request : Request} {came : List ℕ} {before after : List Slot} {old out : List ℕ} {at next i : ℕ} (s : Shown request came before after old at out next i) where
-  pub shown-more : {first second : Slot} {about : Bool} {new : List ℕ} {end : ℕ} → i < length before → first ≡ getD before i noSlot → second ≡ getD after i noSlot
-      → about ≡ isAbout request came i first → Wrote out next (noteText i first second about) new end → Shown request came before after old at new end (i + 1)
-  shown-more h e f g w = record { so-far = begun-more (s .so-far) (rw (drop-cons before i noSlot h, add-one, g, e, f)) w }
+  pub shown-more : {about : Bool} {new : List ℕ} {end : ℕ} → i < length before → about ≡ isAbout request came i (getD before i noSlot)
+      → Wrote out next (noteText i (getD before i noSlot) (getD after i noSlot) about) new end → Shown request came before after old at new end (i + 1)
+  shown-more h e w = record { so-far = begun-more (s .so-far) (rw (drop-cons before i noSlot h, add-one, e)) w }
 
   pub shown-all : length before ≤ i → Wrote old at (slotsText request came 0 before after) out next
   shown-all h = begun-all (s .so-far) (rw (drop-of-length-le before {i = i} h))

@@ -3,7 +3,7 @@
 --   kindText, causeText, messageText    a message: its type, flag, call reference and cause
 --   requestText, replyText              what came in, and what went out
 --   timerText, callText, slotText       what a slot holds
---   sameDue, samePhase, isSame          if two slots hold the same call in the same state
+--   sameDue, sameState, isSame          if two slots hold the same call in the same state
 --   isAbout                             if an event is about the call of a slot
 --   changeText, slotsText               slots before and after
 --   lineText                            the whole line
@@ -21,16 +21,16 @@ use Rattle.header.specs.Header.{headOf}
 use Rattle.elements.specs.declared.CauseRead.{CauseRead}
 use Rattle.elements.specs.declared.CauseRead.the-variants.{Absent, Unreadable, Number}
 use Rattle.elements.specs.Values.{causeIn}
-use Rattle.calls.specs.declared.Phase.{Phase}
-use Rattle.calls.specs.declared.Phase.the-variants.{N3, N6, N9, N10, N12}
+use Rattle.calls.specs.declared.State.{State}
+use Rattle.calls.specs.declared.State.the-variants.{N3, N6, N9, N10, N12}
 use Rattle.calls.specs.declared.Call.{Call}
 use Rattle.calls.specs.declared.Hold.{Hold}
 use Rattle.calls.specs.declared.Hold.the-variants.{Empty, Live}
 use Rattle.calls.specs.declared.Slot.{Slot}
 use Rattle.calls.specs.declared.Due.{Due}
 use Rattle.calls.specs.declared.Due.the-variants.{Never, At}
-use Rattle.calls.specs.Calls.{stateNumber, noSlot, emptyHold, named, isCall}
-use Rattle.calls.specs.Timers.{phaseDue}
+use Rattle.calls.specs.Calls.{stateNumber, noSlot, emptyHold, refersTo, isCall}
+use Rattle.calls.specs.Timers.{stateDue}
 use Rattle.script.specs.declared.Request.{Request}
 use Rattle.script.specs.declared.Request.the-variants.{Tick, Message, Connect, Clear, Offer}
 use Rattle.explain.specs.Names.{nameIn, kindNames, causeNames, refusalNames}
@@ -80,24 +80,24 @@ abbrev pub replyText : List ℕ → List ℕ
 replyText reply = cond (eqb (length reply) 0) [] (word "; out " ++ messageText reply)
 
 -- "the running timer with its deadline"
-abbrev pub timerText : Phase → List ℕ
+abbrev pub timerText : State → List ℕ
 timerText N3 = []
 timerText (N6 deadline) = word " T303 until " ++ decimalText deadline
 timerText (N9 deadline) = word " T310 until " ++ decimalText deadline
 timerText N10 = []
-timerText (N12 clearing) = word " T308 until " ++ decimalText (clearing .deadline)
+timerText (N12 clearing deadline) = word " T308 until " ++ decimalText deadline
 
 -- "the state, the pair and the running timer"
-abbrev pub callText : Call → List ℕ
-callText call =
-    (word " N" ++ decimalText (stateNumber (call .phase)))
+abbrev pub callText : Call → State → List ℕ
+callText call state =
+    (word " N" ++ decimalText (stateNumber state))
     ++ (word " VPCI " ++ decimalText (call .vpci))
     ++ (word " VCI " ++ decimalText (call .vci))
-    ++ timerText (call .phase)
+    ++ timerText state
 
 abbrev pub holdText : Hold → List ℕ
 holdText Empty = word " empty"
-holdText (Live call) = callText call
+holdText (Live call state) = callText call state
 
 abbrev pub slotText : Slot → List ℕ
 slotText slot = holdText (slot .hold)
@@ -108,17 +108,17 @@ sameDue Never (At e) = false
 sameDue (At d) Never = false
 sameDue (At d) (At e) = eqb d e
 
-abbrev pub samePhase : Phase → Phase → Bool
-samePhase p q = eqb (stateNumber p) (stateNumber q) && sameDue (phaseDue p) (phaseDue q)
+abbrev pub sameState : State → State → Bool
+sameState p q = eqb (stateNumber p) (stateNumber q) && sameDue (stateDue p) (stateDue q)
 
 -- "its call, its state or its deadline" did not change
-abbrev pub sameCall : Call → Hold → Bool
-sameCall c Empty = false
-sameCall c (Live d) = named (c .network) (c .reference) (Live d) && samePhase (c .phase) (d .phase)
+abbrev pub sameCall : Call → State → Hold → Bool
+sameCall c q Empty = false
+sameCall c q (Live d t) = refersTo (c .network) (c .reference) (Live d t) && sameState q t
 
 abbrev pub sameHold : Hold → Hold → Bool
 sameHold Empty h = emptyHold h
-sameHold (Live c) h = sameCall c h
+sameHold (Live c q) h = sameCall c q h
 
 abbrev pub isSame : Slot → Slot → Bool
 isSame before after = sameHold (before .hold) (after .hold)

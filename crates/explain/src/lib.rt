@@ -4,12 +4,13 @@
 use calls::Call;
 use calls::Due;
 use calls::Hold;
-use calls::Phase;
 use calls::Slot;
+use calls::State;
 use elements::CauseRead;
 use header::Head;
 use header::Header;
 use script::Request;
+use slots::SLOTS;
 use slots::Slots;
 ghost use mathlib.Core.Path.{_≡_};
 ghost use mathlib.Core.List.{_++_};
@@ -20,7 +21,7 @@ ghost use Rattle.ascii.specs.Ascii.{decimalText};
 ghost use Rattle.elements.specs.Values.{causeIn};
 ghost use Rattle.script.specs.Lines.{Asks};
 ghost use Rattle.explain.specs.Names.{nameIn, refusalNames};
-ghost use Rattle.explain.specs.Line.{kindText, causeText, flagText, headerText, foundText, messageText, clearText, requestText, replyText, timerText, callText, slotText, sameDue, samePhase, isSame, isAbout, changeText, noteText, slotsText, lineText};
+ghost use Rattle.explain.specs.Line.{kindText, causeText, flagText, headerText, foundText, messageText, clearText, requestText, replyText, timerText, callText, slotText, sameDue, sameState, isSame, isAbout, changeText, noteText, slotsText, lineText};
 
 // Tables of names: in each line the number is the first octet, and the name follows.
 const KIND_NAMES: [u8; 135] = *b"\x02CALL PROCEEDING\n\
@@ -231,34 +232,30 @@ fn put_reply(out: &mut [u8], at: usize, reply: &[u8]) -> usize
 }
 
 // A timer and its deadline.
-fn put_timer(out: &mut [u8], at: usize, phase: Phase) -> usize
+fn put_timer(out: &mut [u8], at: usize, state: State) -> usize
     requires { ⌜ at + 40 ≤ length (now out) ⌝ }
-    ensures { λ r. ⌜ Wrote (now (out .entry)) at (timerText phase) (now (out .exit)) r ⌝ }
+    ensures { λ r. ⌜ Wrote (now (out .entry)) at (timerText state) (now (out .exit)) r ⌝ }
     ensures short { λ r. ⌜ (at ≤ r) × (r ≤ at + 40) ⌝ }
 {
-    match phase {
-        Phase::N3 => at,
-        Phase::N6(deadline) => put_labelled(out, at, b" T303 until ", deadline),
-        Phase::N9(deadline) => put_labelled(out, at, b" T310 until ", deadline),
-        Phase::N10 => at,
-        Phase::N12(clearing) => {
-            let deadline = clearing.deadline;
-            put_labelled(out, at, b" T308 until ", deadline)
-        }
+    match state {
+        State::N3 => at,
+        State::N6(deadline) => put_labelled(out, at, b" T303 until ", deadline),
+        State::N9(deadline) => put_labelled(out, at, b" T310 until ", deadline),
+        State::N10 => at,
+        State::N12(_, deadline) => put_labelled(out, at, b" T308 until ", deadline),
     }
 }
 
 // A call's state, pair and timer.
-fn put_call(out: &mut [u8], at: usize, call: Call) -> usize
+fn put_call(out: &mut [u8], at: usize, call: Call, state: State) -> usize
     requires { ⌜ at + 160 ≤ length (now out) ⌝ }
-    ensures { λ r. ⌜ Wrote (now (out .entry)) at (callText call) (now (out .exit)) r ⌝ }
+    ensures { λ r. ⌜ Wrote (now (out .entry)) at (callText call state) (now (out .exit)) r ⌝ }
     ensures short { λ r. ⌜ (at ≤ r) × (r ≤ at + 160) ⌝ }
 {
-    let phase = call.phase;
-    let stated = put_labelled(out, at, b" N", phase.state_number() as u64);
+    let stated = put_labelled(out, at, b" N", state.number() as u64);
     let half = put_labelled(out, stated, b" VPCI ", call.vpci as u64);
     let paired = put_labelled(out, half, b" VCI ", call.vci as u64);
-    put_timer(out, paired, phase)
+    put_timer(out, paired, state)
 }
 
 fn put_slot(out: &mut [u8], at: usize, slot: Slot) -> usize
@@ -269,7 +266,7 @@ fn put_slot(out: &mut [u8], at: usize, slot: Slot) -> usize
     let hold = slot.hold;
     match hold {
         Hold::Empty => octets::put(out, at, b" empty"),
-        Hold::Live(call) => put_call(out, at, call),
+        Hold::Live(call, state) => put_call(out, at, call, state),
     }
 }
 
@@ -300,10 +297,10 @@ fn same_due(a: Due, b: Due) -> bool
     }
 }
 
-fn same_phase(a: Phase, b: Phase) -> bool
-    ensures { λ r. ⌜ r ≡ samePhase a b ⌝ }
+fn same_state(a: State, b: State) -> bool
+    ensures { λ r. ⌜ r ≡ sameState a b ⌝ }
 {
-    if a.state_number() != b.state_number() {
+    if a.number() != b.number() {
         return false;
     }
     same_due(a.due(), b.due())
@@ -317,13 +314,11 @@ fn is_same(a: Slot, b: Slot) -> bool
     let second = b.hold;
     match first {
         Hold::Empty => b.is_empty(),
-        Hold::Live(call) => match second {
+        Hold::Live(call, state) => match second {
             Hold::Empty => false,
-            Hold::Live(other) => {
+            Hold::Live(_, later) => {
                 if b.is_call(call.network, call.reference) {
-                    let phase = call.phase;
-                    let turned = other.phase;
-                    return same_phase(phase, turned);
+                    return same_state(state, later);
                 }
                 false
             }
@@ -378,9 +373,9 @@ fn put_slots(
 {
     let mut next = at;
     let mut i: usize = 0;
-    while i < 32 {
-        let first = before.slot_at(i);
-        let second = after.slot_at(i);
+    while i < SLOTS {
+        let first = before.all[i];
+        let second = after.all[i];
         let about = is_about(request, came, i, first);
         next = put_if(out, next, i, first, second, about);
         i += 1;

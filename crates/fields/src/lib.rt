@@ -1,12 +1,13 @@
 // The fields of a saved form, each written at a place of a lent room. docs/FORMATS.md has the layout.
 //   put_eight                 a number in eight octets
 //   put_field                 a tag, the length of the contents, the contents
-//   put_range, put_channel    what one permitted range, and one pair, add to their field
+//   put_range, put_channel    what one permitted range, and one permanent pair, add to their field
+//   put_four                  what one pair in doubt adds: its number in four octets are VPCI and VCI
 //   put_hold                  the field of a slot
 // Each asks for room for the longest that it writes, and answers the place behind it. Assumes nothing.
 use calls::Call;
 use calls::Hold;
-use calls::Phase;
+use calls::State;
 use channels::Channel;
 use channels::Range;
 ghost use mathlib.Core.Path.{_≡_};
@@ -15,7 +16,7 @@ ghost use mathlib.Core.List.{_∷_};
 ghost use Prim.Native.Nat.{_+_, _≤_};
 ghost use lib.ListN.{length};
 ghost use Rattle.octets.specs.Octets.{Wrote};
-ghost use Rattle.fields.specs.Fields.{two, eight, field, rangeOctets, channelOctets, referenceOctets, phaseOctets, callOctets, holdField};
+ghost use Rattle.fields.specs.Fields.{two, four, eight, field, rangeOctets, channelOctets, referenceOctets, stateOctets, callOctets, holdField};
 
 // A number in two octets.
 fn put_two(room: &mut [u8], at: usize, n: u16) -> usize
@@ -23,6 +24,25 @@ fn put_two(room: &mut [u8], at: usize, n: u16) -> usize
     ensures { λ r. ⌜ Wrote (now (room .entry)) at (two n) (now (room .exit)) r ⌝ }
 {
     octets::put(room, at, &[(n / 256 % 256) as u8, (n % 256) as u8])
+}
+
+// A number in four octets: of the number of a pair these are VPCI and VCI.
+pub fn put_four(room: &mut [u8], at: usize, n: u32) -> usize
+    requires { ⌜ at + 4 ≤ length (now room) ⌝ }
+    ensures { λ r. ⌜ Wrote (now (room .entry)) at (four n) (now (room .exit)) r ⌝ }
+    ensures short { λ r. ⌜ r ≡ at + 4 ⌝ }
+{
+    let a = n / 65536;
+    octets::put(
+        room,
+        at,
+        &[
+            (a / 256 % 256) as u8,
+            (a % 256) as u8,
+            (n / 256 % 256) as u8,
+            (n % 256) as u8,
+        ],
+    )
 }
 
 // A number in eight octets.
@@ -77,7 +97,7 @@ pub fn put_range(room: &mut [u8], at: usize, range: Range) -> usize
     put_two(room, third, range.last)
 }
 
-// A pair, permanent or in doubt; nothing for none.
+// A permanent pair; nothing for none.
 pub fn put_channel(room: &mut [u8], at: usize, channel: Channel) -> usize
     requires { ⌜ at + 4 ≤ length (now room) ⌝ }
     ensures { λ r. ⌜ Wrote (now (room .entry)) at (channelOctets channel) (now (room .exit)) r ⌝ }
@@ -119,45 +139,44 @@ fn put_reference(room: &mut [u8], at: usize, network: bool, reference: u32) -> u
     octets::put(room, at, &[first, high, low])
 }
 
-// A state, and the deadline of its timer.
-fn put_timed(room: &mut [u8], at: usize, state: u8, deadline: u64) -> usize
+// The number of a state, and the deadline of its timer.
+fn put_timed(room: &mut [u8], at: usize, number: u8, deadline: u64) -> usize
     requires { ⌜ at + 9 ≤ length (now room) ⌝ }
-    ensures { λ r. ⌜ Wrote (now (room .entry)) at (state ∷ eight deadline) (now (room .exit)) r ⌝ }
+    ensures { λ r. ⌜ Wrote (now (room .entry)) at (number ∷ eight deadline) (now (room .exit)) r ⌝ }
 {
-    let next = octets::put(room, at, &[state]);
+    let next = octets::put(room, at, &[number]);
     put_eight(room, next, deadline)
 }
 
 // The state of a call, with all that it has.
-fn put_phase(room: &mut [u8], at: usize, phase: Phase) -> usize
+fn put_state(room: &mut [u8], at: usize, state: State) -> usize
     requires { ⌜ at + 11 ≤ length (now room) ⌝ }
-    ensures { λ r. ⌜ Wrote (now (room .entry)) at (phaseOctets phase) (now (room .exit)) r ⌝ }
+    ensures { λ r. ⌜ Wrote (now (room .entry)) at (stateOctets state) (now (room .exit)) r ⌝ }
     ensures short { λ r. ⌜ r ≤ at + 11 ⌝ }
 {
-    match phase {
-        Phase::N3 => octets::put(room, at, &[3]),
-        Phase::N6(deadline) => put_timed(room, at, 6, deadline),
-        Phase::N9(deadline) => put_timed(room, at, 9, deadline),
-        Phase::N10 => octets::put(room, at, &[10]),
-        Phase::N12(clearing) => {
-            let next = put_timed(room, at, 12, clearing.deadline);
+    match state {
+        State::N3 => octets::put(room, at, &[3]),
+        State::N6(deadline) => put_timed(room, at, 6, deadline),
+        State::N9(deadline) => put_timed(room, at, 9, deadline),
+        State::N10 => octets::put(room, at, &[10]),
+        State::N12(clearing, deadline) => {
+            let next = put_timed(room, at, 12, deadline);
             octets::put(room, next, &[run_number(clearing.second), clearing.cause])
         }
     }
 }
 
-// A call in a slot.
-fn put_call(room: &mut [u8], at: usize, slot: u8, call: Call) -> usize
+// A call in a slot, with its state.
+fn put_call(room: &mut [u8], at: usize, slot: u8, call: Call, state: State) -> usize
     requires { ⌜ at + 19 ≤ length (now room) ⌝ }
-    ensures { λ r. ⌜ Wrote (now (room .entry)) at (callOctets slot call) (now (room .exit)) r ⌝ }
+    ensures { λ r. ⌜ Wrote (now (room .entry)) at (callOctets slot call state) (now (room .exit)) r ⌝ }
     ensures short { λ r. ⌜ r ≤ at + 19 ⌝ }
 {
-    let phase = call.phase;
     let second = octets::put(room, at, &[slot]);
     let third = put_reference(room, second, call.network, call.reference);
     let fourth = put_two(room, third, call.vpci);
     let fifth = put_two(room, fourth, call.vci);
-    put_phase(room, fifth, phase)
+    put_state(room, fifth, state)
 }
 
 // The field of a slot; nothing for an empty one.
@@ -168,9 +187,9 @@ pub fn put_hold(room: &mut [u8], at: usize, slot: u8, hold: Hold) -> usize
 {
     match hold {
         Hold::Empty => at,
-        Hold::Live(call) => {
+        Hold::Live(call, state) => {
             let mut contents = [0u8; 19];
-            let size = put_call(&mut contents, 0, slot, call);
+            let size = put_call(&mut contents, 0, slot, call, state);
             put_field(room, at, 4, &contents[..size])
         }
     }

@@ -1,5 +1,6 @@
 -- Laws of the first element that passes a test, over any element type.
---   placed, unplaced            `place` says what `first`, `upd` and `marked` do: at a place that is found, and where nothing is found
+--   placed, unplaced            `place` says what `first`, `upd` and `marked` do: at a place that is found, none before it passes; and where
+--                               nothing is found
 --   none-replicate              `none` as so many times false
 --   marked-placed               `marked` as one flag set among so many
 --   some-nothing                nothing is found if nothing passes
@@ -7,7 +8,7 @@
 --   first-after, place-after, marked-after, some-after     what a search finds after such a change is what it finds before
 --   none-after, length-after    as many flags, and as many elements, after any change
 -- Assumes nothing.
-use Prim.Native.Nat.{ℕ, suc, _+_, _-_, _≤_, _<_}
+use Prim.Native.Nat.{ℕ, zero, suc, _+_, _-_, _≤_, _<_}
 use mathlib.Core.Path.{_≡_, refl, ap, _∙_}
 use mathlib.Core.Bool.{Bool, true, false}
 use mathlib.Core.List.{List, [], _∷_}
@@ -22,6 +23,7 @@ use Rattle.first.specs.First.{placeFrom, place, first, upd, none, marked
 pub record Placed {A : Type 0} (p : A → Bool) (d : A) (xs : List A) (i : ℕ) : Type 0 where
   pub below : i < length xs
   pub passes : p (getD xs i d) ≡ true
+  pub earlier : (k : ℕ) → k < i → p (getD xs k d) ≡ false
   pub found : first p d xs ≡ getD xs i d
   pub changed : (f : A → A) → upd p f xs ≡ set xs i (f (getD xs i d))
   pub flagged : marked p xs ≡ set (none xs) i true
@@ -36,13 +38,28 @@ pub record Unplaced {A : Type 0} (p : A → Bool) (d : A) (xs : List A) : Type 0
 
 module _ {A : Type 0} (p : A → Bool) (d : A) where
   pub placed-head : (x : A) (xs : List A) → p x ≡ true → Placed p d (x ∷ xs) 0
-  placed-head x xs e = record { below = omega arith; passes = e; found = rw e; changed = λ f. rw e; flagged = rw e; some = rw e }
+  placed-head x xs e =
+      record {
+        below = omega arith;
+        passes = e;
+        earlier = λ k h. absurd (omega (arith, h));
+        found = rw e;
+        changed = λ f. rw e;
+        flagged = rw e;
+        some = rw e;
+      }
+
+  earlier-tail : (x : A) (xs : List A) (i : ℕ) → p x ≡ false → ((k : ℕ) → k < i → p (getD xs k d) ≡ false)
+      → (k : ℕ) → k < suc i → p (getD (x ∷ xs) k d) ≡ false
+  earlier-tail x xs i e before zero h = e
+  earlier-tail x xs i e before (suc k) h = before k (omega arith)
 
   pub placed-tail : (x : A) (xs : List A) (i : ℕ) → p x ≡ false → Placed p d xs i → Placed p d (x ∷ xs) (suc i)
   placed-tail x xs i e r =
       record {
         below = omega arith;
         passes = r .passes;
+        earlier = earlier-tail x xs i e (r .earlier);
         found = rw e (r .found);
         changed = λ f. rw e (ap (λ (l : List A). x ∷ l) (r .changed f));
         flagged = rw e (ap (λ (l : List Bool). false ∷ l) (r .flagged));

@@ -1,7 +1,7 @@
-pub mod Marks
-pub mod Acknowledged
-pub mod Verdicts
-pub mod Steps
+pub mod Standing
+pub mod Accepted
 pub mod Expiry
 pub mod Restarting
+pub mod Doubts
+pub mod Steps
 pub mod History

@@ -1,35 +1,35 @@
 -- Document 02, R-2: "Prove from the history since a start or reload: each permitted pair is held from assignment until its call ends,
 -- in doubt from such an expiry until a RESTART ends it, free otherwise, never two ways; reloaded pairs go on as they were."
---   Way, wayIn                 how a pair stands in a table
---   flaggedOn                  if an answer flags a slot that passes a test
---   assigned, ended            an answer says that a call was put on the pair, or that the call on it is gone
---   lastHold, lastOn, isTick   a slot's second T308 runs, on a certain pair; an event is a tick
---   expired                    a tick ended it, and its second T308 ran
+--   Way                        free, held by a certain call, in doubt
+--   heldIn, wayIn              how a pair stands in a table: by one slot, by all of it
+--   asked, assignment          an answer says that a call was asked in a slot; that call has the pair
+--   gone                       an answer says that the call of a slot is gone
+--   secondExpiry               an event is a tick, and in a slot the second T308 runs
 --   isRestart, names, restarts a message is a user's RESTART; it names a pair, or all; an event is one that does
---   restarted                  .. and its answer is RESTART ACKNOWLEDGE for the pair, or for all
---   turned, nextWay, wayAfter  how the pair stands after an event, and after a list of them, told from events, answers and tables
+--   endsDoubt                  .. and was not refused
+--   nextWay, wayAfter          how the pair stands after an event, and after a list of them, told from events, answers and tables
 --   Expiry                     what a second T308 expiry does
 --   Restarting                 what a user's RESTART does
---   History                    the statement
+--   SameCall, History          the statement
 -- Assumes nothing.
 use Prim.Native.Nat.{ℕ}
 use mathlib.Core.Path.{_≡_}
 use mathlib.Core.Bool.{Bool, true, false, not, cond, _&&_, _||_}
 use mathlib.Core.List.{List, [], _∷_}
 use lib.Dec.{eqb}
-use Rattle.octets.specs.Octets.{equal}
-use Rattle.channels.specs.Some.{someOf}
-use Rattle.channels.specs.Channels.{among, permitted}
+use Rattle.channels.specs.Channels.{permitted}
 use Rattle.channels.specs.declared.Channel.the-variants.{Pair}
-use Rattle.doubts.specs.Doubts.{isFull}
-use Rattle.calls.specs.declared.Phase.{Phase}
-use Rattle.calls.specs.declared.Phase.the-variants.{N3, N6, N9, N10, N12}
+use Rattle.pairs.specs.Pairs.{isFull, inPairs}
+use Rattle.calls.specs.declared.State.{State}
+use Rattle.calls.specs.declared.State.the-variants.{N3, N6, N9, N10, N12}
 use Rattle.calls.specs.declared.Call.{Call}
 use Rattle.calls.specs.declared.Hold.{Hold}
 use Rattle.calls.specs.declared.Hold.the-variants.{Empty, Live}
-use Rattle.calls.specs.declared.Slot.{Slot}
-use Rattle.calls.specs.Calls.{noSlot, moved, holdsPair}
-use Rattle.first.specs.declared.Found.the-variants.{At}
+use Rattle.calls.specs.Calls.{noSlot, liveSlot, holdsPair}
+use Rattle.first.specs.declared.Found.{Found}
+use Rattle.first.specs.declared.Found.the-variants.{Nothing, At}
+use Rattle.first.specs.First.{place}
+use Rattle.slots.specs.Slots.{isSet}
 use Rattle.slots.specs.Timers.{nextDue}
 use Rattle.header.specs.declared.Head.{Head}
 use Rattle.header.specs.declared.Head.the-variants.{Ignored, Is}
@@ -47,60 +47,57 @@ use Rattle.table.specs.Effects.{freePair}
 use Rattle.outcome.specs.Outcome.{Outcome}
 use Rattle.control.specs.Events.{startOf}
 use Rattle.control.specs.Happens.{Event, message, tick, connect, clear, offer, happens, after}
-use Rattle.reload.specs.Reached.{Beginning, begun, Reached}
-use Rattle.safety.specs.Tables.{slotAt, HasCall, Holds, InDoubt}
-use Rattle.safety.specs.Sound.{AllInOctets}
+use Rattle.reached.specs.Reached.{Beginning, begun, Reached}
+use Rattle.views.specs.Tables.{slotAt, HasCall, OnPair, Holds, InDoubt}
+use Rattle.safety.specs.Slips.{HeldUntilGone}
+use Rattle.safety.specs.Flags.{flagOf}
 
--- T308 runs again
-abbrev pub again : ℕ → Phase → Phase
-again reading N3 = N3
-again reading (N6 d) = N6 d
-again reading (N9 d) = N9 d
-again reading N10 = N10
-again reading (N12 k) = clearing reading true (k .cause) (k .expired)
-
+-- "held": by a certain live call, that is its slot, its side and its call reference
 pub data Way : Type 0 where
   free : Way
-  held : Way
+  held : (slot : ℕ) (network : Bool) (reference : ℕ) → Way
   doubtful : Way
 
+-- by what slot i holds: a call that has the pair, or not
+abbrev pub heldBy : ℕ → ℕ → ℕ → Hold → Way
+heldBy p v i Empty = free
+heldBy p v i (Live c q) = cond (eqb (c .vpci) p && eqb (c .vci) v) (held i (c .network) (c .reference)) free
+
+abbrev pub heldIn : Table → ℕ → ℕ → ℕ → Way
+heldIn t p v i = heldBy p v i (slotAt t i .hold)
+
 -- by the table: a live call holds the pair; it is in doubt; neither
+abbrev pub standing : Table → ℕ → ℕ → Found → Way
+standing t p v (At i) = heldIn t p v i
+standing t p v Nothing = cond (inPairs (t .doubts) p v) doubtful free
+
 abbrev pub wayIn : Table → ℕ → ℕ → Way
-wayIn t p v = cond (someOf (holdsPair p v) (t .slots .all)) held (cond (among p v (t .doubts .entries)) doubtful free)
+wayIn t p v = standing t p v (place (holdsPair p v) (t .slots .all))
 
--- some flag is set, and its slot passes a test
-abbrev pub flaggedOn : (Slot → Bool) → List Bool → List Slot → Bool
-flaggedOn q [] ss = false
-flaggedOn q (b ∷ bs) [] = false
-flaggedOn q (b ∷ bs) (s ∷ ss) = (b && q s) || flaggedOn q bs ss
+-- "1 call asked": the flagged slot
+abbrev pub asked : Outcome → Found
+asked o = cond (eqb (o .answer .notice) 1) (place isSet (o .answer .flags .on)) Nothing
 
--- "1 call asked": the flagged slot holds the pair afterwards
-abbrev pub assigned : Outcome → ℕ → ℕ → Bool
-assigned o p v = eqb (o .answer .notice) 1 && flaggedOn (holdsPair p v) (o .answer .flags .on) (o .answer .table .slots .all)
+-- "from assignment": the call that was asked has the pair afterwards
+abbrev pub assignment : Table → ℕ → ℕ → Found → Way
+assignment u p v Nothing = free
+assignment u p v (At i) = heldIn u p v i
 
--- "3 calls gone": a flagged slot held the pair before
-abbrev pub ended : Table → Outcome → ℕ → ℕ → Bool
-ended t o p v = eqb (o .answer .notice) 3 && flaggedOn (holdsPair p v) (o .answer .flags .on) (t .slots .all)
+-- "until its call ends": "3 calls gone", and its slot is flagged
+abbrev pub gone : Outcome → ℕ → Bool
+gone o i = eqb (o .answer .notice) 3 && flagOf (o .answer .flags) i
 
--- the second T308 runs in the slot's call
+-- "on the second T308 expiry": the second T308 runs in slot i, and a tick comes
 abbrev pub lastHold : Hold → Bool
 lastHold Empty = false
-lastHold (Live c) = lastT308 (c .phase)
+lastHold (Live c q) = lastT308 q
 
--- .. and the call holds the pair
-abbrev pub lastOn : ℕ → ℕ → Slot → Bool
-lastOn p v s = holdsPair p v s && lastHold (s .hold)
-
-abbrev pub isTick : Event → Bool
-isTick (message label reading room octets) = false
-isTick (tick label reading room) = true
-isTick (connect label reading room slot) = false
-isTick (clear label reading room slot cause) = false
-isTick (offer label reading room body) = false
-
--- "on the second T308 expiry": a tick's answer says that the call is gone, and its second T308 ran
-abbrev pub expired : Table → Event → Outcome → ℕ → ℕ → Bool
-expired t e o p v = isTick e && (eqb (o .answer .notice) 3 && flaggedOn (lastOn p v) (o .answer .flags .on) (t .slots .all))
+abbrev pub secondExpiry : Table → Event → ℕ → Bool
+secondExpiry t (message label reading room octets) i = false
+secondExpiry t (tick label reading room) i = lastHold (slotAt t i .hold)
+secondExpiry t (connect label reading room slot) i = false
+secondExpiry t (clear label reading room slot cause) i = false
+secondExpiry t (offer label reading room body) i = false
 
 -- "A user's RESTART": "RESTART 46", "RESTART with flag 0" on the global reference, and its length is right (document 01, steps 1 to 3 and 5)
 abbrev pub restartHead : Head → Bool
@@ -128,41 +125,44 @@ restarts (connect label reading room slot) p v = false
 restarts (clear label reading room slot cause) p v = false
 restarts (offer label reading room body) p v = false
 
--- "A user's RESTART that names it, or all, ends the doubt": the answer is RESTART ACKNOWLEDGE with the pair, or for all
-abbrev pub restarted : Event → Outcome → ℕ → ℕ → Bool
-restarted e o p v =
-    restarts e p v
-    && (equal (o .reply) (replyOctets true 0 (RestartAcknowledge p v)) || equal (o .reply) (replyOctets true 0 RestartAcknowledgeAll))
+-- "A user's RESTART that names it, or all, ends the doubt": one that was not refused
+abbrev pub endsDoubt : Event → Outcome → ℕ → ℕ → Bool
+endsDoubt e o p v = eqb (o .answer .refusal) 0 && restarts e p v
 
 -- "held from assignment until its call ends, in doubt from such an expiry until a RESTART ends it, free otherwise"
-abbrev pub turned : Bool → Bool → Bool → Bool → Way → Way
-turned isAssigned isExpired isEnded isRestarted free = cond isAssigned held free
-turned isAssigned isExpired isEnded isRestarted held = cond isExpired doubtful (cond isEnded free held)
-turned isAssigned isExpired isEnded isRestarted doubtful = cond isRestarted free doubtful
-
 abbrev pub nextWay : Table → Event → Outcome → ℕ → ℕ → Way → Way
-nextWay t e o p v w = turned (assigned o p v) (expired t e o p v) (ended t o p v) (restarted e o p v) w
+nextWay t e o p v free = assignment (o .answer .table) p v (asked o)
+nextWay t e o p v (held i network r) = cond (gone o i) (cond (secondExpiry t e i) doubtful free) (held i network r)
+nextWay t e o p v doubtful = cond (endsDoubt e o p v) free doubtful
 
 abbrev pub wayAfter : Table → List Event → ℕ → ℕ → Way → Way
 wayAfter t [] p v w = w
 wayAfter t (e ∷ es) p v w = wayAfter (happens t e .answer .table) es p v (nextWay t e (happens t e) p v w)
 
 -- "on the second T308 expiry": an accepted tick fires the timer of slot i, whose call's second T308 runs
-pub record Fires (t : Table) (label reading room i : ℕ) (c : Call) : Type 0 where
+pub record Fires (t : Table) (label reading room i : ℕ) (c : Call) (q : State) : Type 0 where
   pub accepted : happens t (tick label reading room) .answer .refusal ≡ 0
   pub due : nextDue reading (t .slots .all) ≡ At i
-  pub live : HasCall t i c
-  pub last : lastT308 (c .phase) ≡ true
+  pub live : HasCall t i c q
+  pub last : lastT308 q ≡ true
+
+-- T308 runs again
+abbrev pub again : ℕ → State → State
+again reading N3 = N3
+again reading (N6 d) = N6 d
+again reading (N9 d) = N9 d
+again reading N10 = N10
+again reading (N12 k d) = clearing reading true (k .cause) (k .expired)
 
 pub record Expiry (t : Table) : Type 0 where
   -- "Now the pair is in doubt, not free; the slot is empty, notice 3."
-  pub begins-doubt : (label reading room i : ℕ) (c : Call) → Fires t label reading room i c → isFull (t .doubts .entries) ≡ false
+  pub begins-doubt : (label reading room i : ℕ) (c : Call) (q : State) → Fires t label reading room i c q → isFull (t .doubts) ≡ false
       → let o = happens t (tick label reading room) in
       (slotAt (o .answer .table) i ≡ noSlot) × (InDoubt (o .answer .table) (c .vpci) (c .vci)) × (o .answer .notice ≡ 3) × (o .reply ≡ [])
   -- "with 64, a second expiry keeps the call in N12 and starts T308 again, sending nothing"
-  pub waits : (label reading room i : ℕ) (c : Call) → Fires t label reading room i c → isFull (t .doubts .entries) ≡ true
+  pub waits : (label reading room i : ℕ) (c : Call) (q : State) → Fires t label reading room i c q → isFull (t .doubts) ≡ true
       → let o = happens t (tick label reading room) in
-      (slotAt (o .answer .table) i ≡ record { hold = Live (moved c (again reading (c .phase))) }) × (o .answer .table .doubts ≡ t .doubts)
+      (slotAt (o .answer .table) i ≡ liveSlot c (again reading q)) × (o .answer .table .doubts ≡ t .doubts)
       × (o .answer .notice ≡ 0) × (o .reply ≡ [])
 
 -- "A user's RESTART": an accepted message that is one
@@ -181,10 +181,21 @@ pub record Restarting (t : Table) : Type 0 where
       → let o = happens t (message label reading room m) in
       (wayIn (o .answer .table) p v ≡ free) × (o .reply ≡ replyOctets true 0 (RestartAcknowledge p v))
 
+-- two calls are one: their slot, side and call reference
+pub record SameCall (i j : ℕ) (c d : Call) : Type 0 where
+  pub slot : i ≡ j
+  pub network : c .network ≡ d .network
+  pub reference : c .reference ≡ d .reference
+
 pub record History : Type 0 where
   -- from how it stood at the beginning, the events and their answers tell how each permitted pair stands; "reloaded pairs go on as they were"
-  pub told : (b : Beginning) → begun b .refusal ≡ 0 → (es : List Event) → AllInOctets es → (p v : ℕ) → permitted (begun b .table .pool) p v ≡ true
+  pub told : (b : Beginning) → begun b .refusal ≡ 0 → (es : List Event) (p v : ℕ) → permitted (begun b .table .pool) p v ≡ true
       → wayIn (after (begun b .table) es) p v ≡ wayAfter (begun b .table) es p v (wayIn (begun b .table) p v)
+  -- "until its call ends": by every event a live call keeps slot, side, reference and pair, or it is gone and the host is told
+  pub until-gone : (t : Table) → Reached t → (e : Event) → HeldUntilGone t e
+  -- "its call": a held pair stands the same way only while the same call holds it, so two live calls never exchange their pairs
+  pub its-call : (t u : Table) → Reached t → Reached u → (p v : ℕ) → wayIn t p v ≡ wayIn u p v
+      → (i j : ℕ) (c d : Call) (q r : State) → HasCall t i c q → OnPair p v c → HasCall u j d r → OnPair p v d → SameCall i j c d
   -- a pair in doubt is given to no call
   pub not-given : (t : Table) (p v : ℕ) → InDoubt t p v → freePair t ≡ Pair p v → ⊥
   -- every second expiry, of a reached table

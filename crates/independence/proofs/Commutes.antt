@@ -18,12 +18,11 @@ use Rattle.calls.specs.declared.Slot.{Slot}
 use Rattle.calls.specs.Calls.{noSlot, isEmpty}
 use Rattle.first.proofs.First.{Off, first-after, place-after, upd-comm}
 use Rattle.header.specs.declared.Header.{Header}
-use Rattle.effects.specs.Effect.{fated}
 use Rattle.table.specs.declared.Table.{Table}
 use Rattle.independence.specs.Independence.{Heard, hear, AcceptedIn, headed, Qualifies, IsSetup, KeepsOrder, within-reference, setup-before, before-setup, easy}
-use Rattle.independence.proofs.Deeds.{Deed, turns, fills, given, reaches, changed, perform, sight, decide, decision, mine, Ground, groundOf, freeOn}
+use Rattle.independence.proofs.Deeds.{Deed, turns, fills, given, reaches, changed, perform, sight, decide, decision, mine, Ground, groundOf, fated}
 use Rattle.independence.proofs.Hearing.{afterDeed, does, takes, hears, still-accepted, refusalOf, refusedWith}
-use Rattle.independence.proofs.Local.{Of, of-turn, of-fill, decide-of, Turning, turn, decide-turning, decide-alone, Other, other-call, calm-empty, calm-entries}
+use Rattle.independence.proofs.Local.{Of, of-turn, of-fill, decide-of, Turning, turn, decide-turning, decide-alone, Other, other-call, calm-empty, calm-free}
 use Rattle.independence.proofs.Easy.{CalmDeed, calm, easy-calm, easy-not-setup}
 
 -- neither change meets what the other changes
@@ -51,7 +50,7 @@ module _ (reading : ℕ) (p q : Slot → Bool) (a b : Ground → List Slot → D
       record {
         first = ap given (sym same-a);
         second = ap given (sym same-b);
-        both = λ i. record { slots = record { all = met i }; doubts = t .doubts; last = reading; pool = t .pool };
+        both = λ i. record { slots = record { all = met i }; last = reading; doubts = t .doubts; pool = t .pool };
       }
 
 other-sym : (h k : Header) → Other h k → Other k h
@@ -65,8 +64,8 @@ turns-apart h k d e other (turn g f) (turn i j) = record {
 
 easy-apart : (h k : Header) (d e : Deed) → Other h k → Of h d → CalmDeed e → Apart (mine h) (mine k) d e
 easy-apart h k d e other (of-turn g f) (calm i {f = j} c) = turns-apart h k (turns g f) (turns i j) other (turn g f) (turn i j)
-easy-apart h k d e other (of-fill g p v user) (calm i {f = j} c) = record {
-  left = other-call k h (fills g (h .reference) p v) (other-sym h k other) (of-fill g p v user);
+easy-apart h k d e other (of-fill g p v setup user) (calm i {f = j} c) = record {
+  left = other-call k h (fills g (h .reference) p v) (other-sym h k other) (of-fill g p v setup user);
   right = calm-empty k j c;
 }
 
@@ -87,7 +86,7 @@ sees-all h k ground d ss other (calm g {f} c) =
       call = sees-call h k ground (turns g f) ss other (of-turn g f) i;
       slot = sees-slot h k ground (turns g f) ss other (of-turn g f) i;
       empty = place-after (mine k) isEmpty (fated f) (calm-empty k f c) ss i;
-      pair = freeOn ground (calm-entries (mine k) f ss c i);
+      pair = calm-free (mine k) f ground ss c i;
     }
 
 -- what is decided of a message other than SETUP is decided of it after a message on another reference, too

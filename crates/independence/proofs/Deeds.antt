@@ -6,21 +6,24 @@
 -- Assumes nothing.
 use Prim.Native.Nat.{ℕ}
 use mathlib.Core.Bool.{Bool, true, false, not, cond, _&&_}
-use mathlib.Core.List.{List, map}
+use mathlib.Core.List.{List}
 use lib.Dec.{eqb}
 use Rattle.table.specs.declared.Table.{Table}
-use Rattle.channels.specs.declared.Entry.{Entry}
 use Rattle.channels.specs.declared.Channel.{Channel}
 use Rattle.channels.specs.declared.Channel.the-variants.{None, Pair}
 use Rattle.channels.specs.declared.Pool.{Pool}
-use Rattle.channels.specs.Channels.{taken, lowest}
+use Rattle.channels.specs.Channels.{lowest}
+use Rattle.pairs.specs.declared.Pairs.{Pairs}
+use Rattle.calls.specs.declared.State.{State}
+use Rattle.calls.specs.declared.State.the-variants.{N3}
 use Rattle.calls.specs.declared.Hold.{Hold}
 use Rattle.calls.specs.declared.Hold.the-variants.{Empty, Live}
 use Rattle.calls.specs.declared.Slot.{Slot}
-use Rattle.calls.specs.Calls.{noSlot, isEmpty, isCall, entryOf}
+use Rattle.calls.specs.Calls.{noSlot, liveSlot, isEmpty, isCall}
 use Rattle.first.specs.declared.Found.{Found}
 use Rattle.first.specs.declared.Found.the-variants.{Nothing, At}
 use Rattle.first.specs.First.{place, first, upd}
+use Rattle.search.specs.Search.{taken}
 use Rattle.header.specs.declared.Header.{Header}
 use Rattle.replies.specs.declared.Reply.{Reply}
 use Rattle.replies.specs.declared.Reply.the-variants as reply
@@ -33,7 +36,7 @@ use Rattle.verdicts.specs.declared.Fate.the-variants as fate
 use Rattle.verdicts.specs.declared.Verdict.{Verdict}
 use Rattle.verdicts.specs.Verdict.{plainCause}
 use Rattle.judging.specs.Judge.{judge, noCallReply}
-use Rattle.effects.specs.Effect.{fated, noFlags, flagsAt, flagged}
+use Rattle.effects.specs.Change.{noFlags, flagsAt, flagged}
 use Rattle.table.specs.Effects.{userCall}
 use Rattle.independence.specs.Independence.{Given}
 
@@ -47,7 +50,24 @@ given (turns g f) = g
 given (fills g r p v) = g
 
 abbrev pub userSlot : ℕ → ℕ → ℕ → Slot
-userSlot r p v = record { hold = Live (userCall r p v) }
+userSlot r p v = liveSlot (userCall r p v) N3
+
+-- what its fate makes of a call's slot, and its notice
+abbrev pub inState : State → Hold → Slot
+inState q Empty = noSlot
+inState q (Live c p) = liveSlot c q
+
+abbrev pub fated : Fate → Slot → Slot
+fated fate.Stay s = s
+fated (fate.To q notice) s = inState q (s .hold)
+fated fate.Gone s = noSlot
+fated fate.InDoubt s = noSlot
+
+abbrev pub noticeOf : Fate → ℕ
+noticeOf fate.Stay = 0
+noticeOf (fate.To q notice) = notice
+noticeOf fate.Gone = 3
+noticeOf fate.InDoubt = 3
 
 -- the first slot that passes a test is changed
 abbrev pub reaches : (Slot → Bool) → Deed → Slot → Bool
@@ -70,21 +90,21 @@ pub record Sight : Type 0 where
 
 -- what a message on a call leaves as it is: the pairs in doubt, and the pool
 pub record Ground : Type 0 where
-  pub doubts : List Entry
+  pub doubts : Pairs
   pub pool : Pool
 
 abbrev pub groundOf : Table → Ground
-groundOf t = record { doubts = t .doubts .entries; pool = t .pool }
+groundOf t = record { doubts = t .doubts; pool = t .pool }
 
-abbrev pub freeOn : Ground → List Entry → Channel
-freeOn ground held = lowest (taken held (ground .doubts) (ground .pool .permanents)) (ground .pool .ranges)
+abbrev pub freeOn : Ground → List Slot → Channel
+freeOn ground ss = lowest (taken ss (ground .doubts) (ground .pool .permanents)) (ground .pool .ranges)
 
 abbrev pub sight : (Slot → Bool) → Ground → List Slot → Sight
 sight own ground ss = record {
   call = place own ss;
   slot = first own noSlot ss;
   empty = place isEmpty ss;
-  pair = freeOn ground (map entryOf ss);
+  pair = freeOn ground ss;
 }
 
 -- a reply alone
@@ -117,12 +137,12 @@ onNoCall m h e c =
 abbrev pub turned : Header → ℕ → Verdict → Deed
 turned h i v =
     turns
-    (record { refusal = 0; reply = replyOctets (not (h .flag)) (h .reference) (v .reply); notice = v .notice; flags = flagged (v .notice) i })
+    (record { refusal = 0; reply = replyOctets (not (h .flag)) (h .reference) (v .reply); notice = noticeOf (v .fate); flags = flagged (noticeOf (v .fate)) i })
     (v .fate)
 
 abbrev pub onHold : List ℕ → Header → ℕ → ℕ → Hold → Deed
 onHold m h reading i Empty = still false 0 reply.None
-onHold m h reading i (Live c) = turned h i (judge m h (c .phase) reading)
+onHold m h reading i (Live c q) = turned h i (judge m h q reading)
 
 abbrev pub decideAt : List ℕ → Header → ℕ → Sight → Found → Deed
 decideAt m h reading see Nothing = onNoCall m h (see .empty) (see .pair)

@@ -1,5 +1,6 @@
 -- The answer and the table that a message gets are those of its deed.
---   Matches                 an effect's answer and slots are those of a deed
+--   Sure, judged-sure       no message leaves a pair in doubt
+--   Matches                 an effect's answer and slots are those of a deed, and the pairs in doubt stay
 --   addressed-matches       so it is of every message on a non-global reference
 --   refusal-alone           with an accepted reading, a refusal looks at the message alone
 --   takes, hears            a message that is refused leaves the table, and one that is not does its deed
@@ -10,14 +11,14 @@ use mathlib.Core.Path.{_≡_, refl, ap, sym, _∙_}
 use mathlib.Core.Bool.{Bool, true, false, not, cond, _&&_}
 use mathlib.Core.List.{List, [], _∷_}
 use lib.Dec.{eqb, ltb}
-use lib.ListN.{getD}
+use lib.ListN.{set}
 use native.Mathlib.Nat.{le-refl}
 use borrow.Author.Tests.{ne-eqb, le-ltb}
 use Rattle.channels.specs.declared.Channel.{Channel}
 use Rattle.channels.specs.declared.Channel.the-variants.{None, Pair}
-use Rattle.channels.proofs.Cases.{by-test}
-use Rattle.doubts.specs.declared.Doubting.the-variants.{Keep}
-use Rattle.doubts.specs.Doubts.{doubtsOf, doubtsAfter}
+use Rattle.channels.proofs.Cases.{by-test, clash}
+use Rattle.calls.specs.declared.State.{State}
+use Rattle.calls.specs.declared.Call.{Call}
 use Rattle.calls.specs.declared.Hold.{Hold}
 use Rattle.calls.specs.declared.Hold.the-variants.{Empty, Live}
 use Rattle.calls.specs.declared.Slot.{Slot}
@@ -26,6 +27,7 @@ use Rattle.first.specs.declared.Found.{Found}
 use Rattle.first.specs.declared.Found.the-variants.{Nothing, At}
 use Rattle.first.specs.First.{place, upd}
 use Rattle.first.proofs.First.{placed}
+use Rattle.slots.specs.Slots.{holdAt}
 use Rattle.header.specs.declared.Header.{Header}
 use Rattle.header.specs.declared.Head.{Head}
 use Rattle.header.specs.declared.Head.the-variants.{Is}
@@ -34,18 +36,38 @@ use Rattle.replies.specs.declared.Reply.{Reply}
 use Rattle.setup.specs.declared.Admission.{Admission}
 use Rattle.setup.specs.declared.Admission.the-variants.{Admitted, Refused}
 use Rattle.setup.specs.Setup.{admission}
+use Rattle.verdicts.specs.declared.Fate.{Fate}
 use Rattle.verdicts.specs.declared.Fate.the-variants as fate
 use Rattle.verdicts.specs.declared.Verdict.{Verdict}
-use Rattle.judging.specs.Judge.{judge}
 use Rattle.effects.specs.declared.Effect.{Effect}
-use Rattle.effects.specs.Effect.{replying, onSlot, fated, noFlags}
+use Rattle.effects.specs.Change.{noFlags, slotsAfter, doubtsAfter}
+use Rattle.effects.specs.Effect.{replying, onCall}
 use Rattle.table.specs.declared.Table.{Table}
 use Rattle.table.specs.Effects as effects
 use Rattle.refusals.specs.Refusals.{orElse, sizeRefusal, messageRefusal}
 use Rattle.outcome.specs.Outcome.{Outcome, acceptedAs, unlessRefused}
 use Rattle.control.specs.Events.{heardBy}
+use Rattle.views.proofs.Verdicts.{Judged, stays, proceeds, connects, releases, ends, times-out, sends-again, waits, loses, judged}
 use Rattle.independence.specs.Independence.{Heard, Given, givenBy, hear, AcceptedIn, headed, Qualifies}
-use Rattle.independence.proofs.Deeds.{Deed, given, perform, sight, still, onPair, admit, setUp, onNoCall, turned, onHold, decideAt, decide, decision, mine, groundOf}
+use Rattle.independence.proofs.Deeds.{Deed, given, inState, fated, perform, sight, still, onPair, admit, setUp, onNoCall, turned, onHold, decideAt, decide, decision, mine, groundOf}
+
+-- every fate but InDoubt
+data Sure : Fate → Type 0 where
+  stay : Sure fate.Stay
+  to : (q : State) (notice : ℕ) → Sure (fate.To q notice)
+  gone : Sure fate.Gone
+
+-- only a timer leaves a pair in doubt, and not where there is no room for it
+judged-sure : (reading : ℕ) (q : State) (v : Verdict) → Judged reading true q v → Sure (v .fate)
+judged-sure reading q v (stays k a says) = stay
+judged-sure reading q v (proceeds d e) = to _ _
+judged-sure reading q v (connects asked) = to _ _
+judged-sure reading q v (releases m) = gone
+judged-sure reading q v ends = gone
+judged-sure reading q v (times-out d e) = to _ _
+judged-sure reading q v (sends-again k d e first) = to _ _
+judged-sure reading q v (waits k d e second full) = to _ _
+judged-sure reading q v (loses k d e second full) = clash refl full
 
 pub upd-stays : (own : Slot → Bool) (ss : List Slot) → upd own (fated fate.Stay) ss ≡ ss
 upd-stays own [] = refl
@@ -53,20 +75,20 @@ upd-stays own (s ∷ ss) = by-test (own s) (λ e. rw e) (λ e. rw e (ap (λ (l :
 
 pub record Matches (t : Table) (own : Slot → Bool) (e : Effect) (d : Deed) : Type 0 where
   pub answer : givenBy (acceptedAs t 0 e) ≡ given d
-  pub slots : e .slots .all ≡ perform own d (t .slots .all)
-  pub doubt : e .doubt ≡ Keep
+  pub slots : slotsAfter (e .change) (t .slots) .all ≡ perform own d (t .slots .all)
+  pub doubts : doubtsAfter (e .change) (t .doubts) ≡ t .doubts
 
 module _ (t : Table) (own : Slot → Bool) where
   matches-cond : (b : Bool) (e e′ : Effect) (d d′ : Deed) → Matches t own e d → Matches t own e′ d′ → Matches t own (cond b e e′) (cond b d d′)
   matches-cond true e e′ d d′ x y = x
   matches-cond false e e′ d d′ x y = y
 
-  still-matches : (flag : Bool) (r : ℕ) (a : Reply) → Matches t own (replying (t .slots) flag r a) (still flag r a)
-  still-matches flag r a = record { answer = refl; slots = sym (upd-stays own (t .slots .all)); doubt = refl }
+  still-matches : (flag : Bool) (r : ℕ) (a : Reply) → Matches t own (replying flag r a) (still flag r a)
+  still-matches flag r a = record { answer = refl; slots = sym (upd-stays own (t .slots .all)); doubts = refl }
 
-  pair-matches : (r i : ℕ) (c : Channel) → place isEmpty (t .slots .all) ≡ At i → Matches t own (effects.onPair t r i c) (onPair r i c)
+  pair-matches : (r i : ℕ) (c : Channel) → place isEmpty (t .slots .all) ≡ At i → Matches t own (effects.onPair r i c) (onPair r i c)
   pair-matches r i None e = still-matches true r _
-  pair-matches r i (Pair p v) e = record { answer = refl; slots = sym ((placed isEmpty noSlot (t .slots .all) i e) .changed _); doubt = refl }
+  pair-matches r i (Pair p v) e = record { answer = refl; slots = sym ((placed isEmpty noSlot (t .slots .all) i e) .changed _); doubts = refl }
 
   admit-matches : (r : ℕ) (f : Found) → place isEmpty (t .slots .all) ≡ f → Matches t own (effects.admitted t r f) (admit r f (effects.freePair t))
   admit-matches r Nothing e = still-matches true r _
@@ -82,19 +104,25 @@ module _ (t : Table) (own : Slot → Bool) where
       (matches-cond (not (h .flag) && h .whole) _ _ _ _ (setup-matches (h .reference) (admission m 9)) (still-matches false 0 _))
       (still-matches (not (h .flag)) (h .reference) _)
 
-  slot-matches : (h : Header) (i : ℕ) (v : Verdict) → place own (t .slots .all) ≡ At i → Matches t own (onSlot (t .slots) i (not (h .flag)) (h .reference) v) (turned h i v)
-  slot-matches h i v e = record { answer = refl; slots = sym ((placed own noSlot (t .slots .all) i e) .changed (fated (v .fate))); doubt = refl }
+  call-matches : (h : Header) (i : ℕ) (c : Call) (q : State) (a : Reply) (f : Fate) → place own (t .slots .all) ≡ At i → holdAt (t .slots .all) i ≡ Live c q → Sure f
+      → Matches t own (onCall i c (not (h .flag)) (h .reference) (record { fate = f; reply = a })) (turned h i (record { fate = f; reply = a }))
+  call-matches h i c q a f e live stay = still-matches (not (h .flag)) (h .reference) a
+  call-matches h i c q a f e live (to n notice) =
+      let put = (placed own noSlot (t .slots .all) i e) .changed (fated f) ∙ ap (λ (k : Hold). set (t .slots .all) i (inState n k)) live in
+      record { answer = refl; slots = sym put; doubts = refl }
+  call-matches h i c q a f e live gone = record { answer = refl; slots = sym ((placed own noSlot (t .slots .all) i e) .changed (fated f)); doubts = refl }
 
-  hold-matches : (m : List ℕ) (h : Header) (reading i : ℕ) (k : Hold) → place own (t .slots .all) ≡ At i → Matches t own (effects.onHold t m h reading i k) (onHold m h reading i k)
-  hold-matches m h reading i Empty e = still-matches false 0 _
-  hold-matches m h reading i (Live c) e = slot-matches h i (judge m h (c .phase) reading) e
+  hold-matches : (m : List ℕ) (h : Header) (reading i : ℕ) (k : Hold) → place own (t .slots .all) ≡ At i → holdAt (t .slots .all) i ≡ k
+      → Matches t own (effects.onHold m h reading i k) (onHold m h reading i k)
+  hold-matches m h reading i Empty e live = still-matches false 0 _
+  hold-matches m h reading i (Live c q) e live = call-matches h i c q _ _ e live (judged-sure reading q _ (judged reading true m h q))
 
   found-matches : (m : List ℕ) (h : Header) (reading : ℕ) (f : Found) → place own (t .slots .all) ≡ f
       → Matches t own (effects.addressed t m h reading f) (decideAt m h reading (sight own (groundOf t) (t .slots .all)) f)
   found-matches m h reading Nothing e = no-call-matches m h
   found-matches m h reading (At i) e =
       let p = placed own noSlot (t .slots .all) i e in
-      rw (p .found) (hold-matches m h reading i (getD (t .slots .all) i noSlot .hold) e)
+      rw (p .found) (hold-matches m h reading i (holdAt (t .slots .all) i) e refl)
 
   pub addressed-matches : (m : List ℕ) (h : Header) (reading : ℕ)
       → Matches t own (effects.addressed t m h reading (place own (t .slots .all))) (decide m h reading (sight own (groundOf t) (t .slots .all)))
@@ -104,7 +132,7 @@ module _ (t : Table) (own : Slot → Bool) where
 abbrev pub refusalOf : Heard → ℕ
 refusalOf m = orElse (cond (ltb (m .room) 1024) 1 (cond (eqb (m .label) 1) 0 2)) (sizeRefusal (m .octets))
 
-pub refusal-alone : (t : Table) (reading : ℕ) (m : Heard) → AcceptedIn t reading → messageRefusal t (m .label) reading (m .room) (m .octets) ≡ refusalOf m
+pub refusal-alone : (t : Table) (reading : ℕ) (m : Heard) → AcceptedIn t reading → messageRefusal (t .last) (m .label) reading (m .room) (m .octets) ≡ refusalOf m
 refusal-alone t reading m a = rw (le-ltb _ _ (a .not-above), le-ltb _ _ (a .not-below))
 
 abbrev pub refusedWith : ℕ → Given
@@ -112,7 +140,7 @@ refusedWith n = record { refusal = n; reply = []; notice = 0; flags = noFlags }
 
 -- the answer of a deed, and the table after it
 abbrev pub afterDeed : ℕ → (Slot → Bool) → Table → Deed → Given × Table
-afterDeed reading own t d = (given d, record { slots = record { all = perform own d (t .slots .all) }; doubts = t .doubts; last = reading; pool = t .pool })
+afterDeed reading own t d = (given d, record { slots = record { all = perform own d (t .slots .all) }; last = reading; doubts = t .doubts; pool = t .pool })
 
 abbrev pub does : ℕ → List ℕ → Header → Table → Given × Table
 does reading m h t = afterDeed reading (mine h) t (decision m h reading (groundOf t) (t .slots .all))
@@ -123,7 +151,7 @@ read o = (givenBy o, o .answer .table)
 matched : (t : Table) (reading : ℕ) (own : Slot → Bool) (e : Effect) (d : Deed) → Matches t own e d → read (acceptedAs t reading e) ≡ afterDeed reading own t d
 matched t reading own e d x = λ i. (
   x .answer i,
-  record { slots = record { all = x .slots i }; doubts = doubtsOf (doubtsAfter (x .doubt i) (t .doubts .entries)); last = reading; pool = t .pool },
+  record { slots = record { all = x .slots i }; last = reading; doubts = x .doubts i; pool = t .pool },
 )
 
 pub accepted-does : (t : Table) (reading : ℕ) (m : List ℕ) (h : Header) → eqb (h .reference) 0 ≡ false

@@ -1,4 +1,4 @@
--- The order rule of demand 3 is needed: each of its parts, broken by one exchange of two messages, changes an answer. By computation.
+-- Three lists of two messages whose order matters: to exchange them changes an answer. By computation.
 --   setups-lean            two SETUPs on two references, and one pair: the second is refused
 --   setup-release-lean     a RELEASE, and a SETUP on another reference that needs the pair
 --   one-reference-leans    two messages on one reference: a STATUS ENQUIRY and a RELEASE
@@ -12,7 +12,7 @@ use mathlib.Core.List.{[], _∷_}
 use native.Mathlib.Omega.{arith}
 use lib.ListN.{length, getD}
 use Rattle.reorder.specs.Reorder.{Order}
-use Rattle.reload.specs.Reached.{start, Reached}
+use Rattle.reached.specs.Reached.{start, Reached}
 use Rattle.independence.specs.Independence.{Heard, Given, Qualifies, KeepsOrder, within-reference, setup-before, before-setup}
 use Rattle.independence.specs.Leaning.{setup, release, enquiry, ranges, onePair, firstCall, held, Leans}
 

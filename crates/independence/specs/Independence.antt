@@ -19,10 +19,10 @@ use Rattle.header.specs.declared.Header.{Header}
 use Rattle.header.specs.declared.Head.the-variants.{Is}
 use Rattle.header.specs.Header.{headerIn, headOf}
 use Rattle.table.specs.declared.Table.{Table}
-use Rattle.refusals.specs.Refusals.{largestReading}
+use Rattle.calls.specs.Timers.{largestReading}
 use Rattle.outcome.specs.Outcome.{Outcome}
 use Rattle.control.specs.Events.{messageOf}
-use Rattle.reload.specs.Reached.{Reached}
+use Rattle.reached.specs.Reached.{Reached}
 
 -- "In demand 3 each message keeps its own label and room." `room` is the length of the reply room
 pub record Heard : Type 0 where

@@ -9,7 +9,7 @@ use lib.ListN.{length, getD}
 use Rattle.table.specs.declared.Table.{Table}
 use Rattle.control.specs.Events.{startOf}
 use Rattle.control.specs.Happens.{Event, message, after}
-use Rattle.reload.specs.Reached.{Reached}
+use Rattle.reached.specs.Reached.{Reached}
 use Rattle.independence.specs.Independence.{Heard, Given, AcceptedIn, Qualifies, SameResults}
 
 abbrev pub plain : List ℕ → Heard

@@ -7,5 +7,5 @@
 //   proofs/Easy.antt            CALL PROCEEDING, CONNECT, CONNECT ACKNOWLEDGE and STATUS ENQUIRY end no call
 //   proofs/Commutes.antt        two messages that need not keep their order commute
 //   proofs/Independence.antt    the demand, proved
-//   proofs/Leaning.antt         the order rule is needed
+//   proofs/Leaning.antt         these lists, proved
 // Assumes nothing.

@@ -10,34 +10,34 @@ use mathlib.Core.Logic.{_⊎_, inl, inr, ⊎-elim, _≢_}
 use lib.Dec.{eqb}
 use borrow.Author.Tests.{eq-eqb, ne-eqb}
 use Rattle.calls.specs.Calls.{stateNumber}
-use Rattle.calls.specs.declared.Phase.{Phase}
-use Rattle.calls.specs.declared.Phase.the-variants.{N3, N6, N9, N10, N12}
+use Rattle.calls.specs.declared.State.{State}
+use Rattle.calls.specs.declared.State.the-variants.{N3, N6, N9, N10, N12}
 use Rattle.judging.specs.Class.{inN6, inN6or9, inN10}
 use Rattle.judging.specs.declared.Class.{Class}
 use Rattle.judging.specs.declared.Class.the-variants.{Unexpected}
 
-by-N6 : (p : Phase) (c : Class) → cond (eqb (stateNumber p) 6) c Unexpected ≡ inN6 p c
+by-N6 : (p : State) (c : Class) → cond (eqb (stateNumber p) 6) c Unexpected ≡ inN6 p c
 by-N6 N3 c = refl
 by-N6 (N6 d) c = refl
 by-N6 (N9 d) c = refl
 by-N6 N10 c = refl
-by-N6 (N12 k) c = refl
+by-N6 (N12 k d) c = refl
 
-by-N6or9 : (p : Phase) (c : Class) → cond (eqb (stateNumber p) 6 || eqb (stateNumber p) 9) c Unexpected ≡ inN6or9 p c
+by-N6or9 : (p : State) (c : Class) → cond (eqb (stateNumber p) 6 || eqb (stateNumber p) 9) c Unexpected ≡ inN6or9 p c
 by-N6or9 N3 c = refl
 by-N6or9 (N6 d) c = refl
 by-N6or9 (N9 d) c = refl
 by-N6or9 N10 c = refl
-by-N6or9 (N12 k) c = refl
+by-N6or9 (N12 k d) c = refl
 
-by-N10 : (p : Phase) (c : Class) → cond (eqb (stateNumber p) 10) c Unexpected ≡ inN10 p c
+by-N10 : (p : State) (c : Class) → cond (eqb (stateNumber p) 10) c Unexpected ≡ inN10 p c
 by-N10 N3 c = refl
 by-N10 (N6 d) c = refl
 by-N10 (N9 d) c = refl
 by-N10 N10 c = refl
-by-N10 (N12 k) c = refl
+by-N10 (N12 k d) c = refl
 
-module _ (p : Phase) (c : Class) (n : ℕ) (e : n ≡ stateNumber p) where
+module _ (p : State) (c : Class) (n : ℕ) (e : n ≡ stateNumber p) where
   pub in-N6 : n ≡ 6 → c ≡ inN6 p c
   in-N6 h = rw (eq-eqb (stateNumber p) 6 (sym e ∙ h)) at (by-N6 p c)
 

@@ -10,9 +10,10 @@ use Prim.Native.Nat.{ℕ, _+_}
 use mathlib.Core.Bool.{cond, _&&_}
 use mathlib.Core.List.{List}
 use lib.Dec.{eqb}
-use Rattle.calls.specs.declared.Phase.{Phase}
-use Rattle.calls.specs.declared.Phase.the-variants.{N3, N6, N9, N10, N12}
+use Rattle.calls.specs.declared.State.{State}
+use Rattle.calls.specs.declared.State.the-variants.{N3, N6, N9, N10, N12}
 use Rattle.calls.specs.Calls.{stateNumber}
+use Rattle.calls.specs.Timers.{t310}
 use Rattle.header.specs.declared.Header.{Header}
 use Rattle.elements.specs.declared.CauseRead.{CauseRead}
 use Rattle.elements.specs.declared.CauseRead.the-variants as causeRead
@@ -24,7 +25,7 @@ use Rattle.replies.specs.declared.Diagnostic.the-variants as diagnostic
 use Rattle.replies.specs.declared.Reply.{Reply}
 use Rattle.replies.specs.declared.Reply.the-variants as reply
 use Rattle.verdicts.specs.declared.Verdict.{Verdict}
-use Rattle.verdicts.specs.Verdict.{because, plainCause, answered, silent, turned, ended}
+use Rattle.verdicts.specs.Verdict.{because, plainCause, answered, silent, moved, ended}
 use Rattle.judging.specs.declared.Class.{Class}
 use Rattle.judging.specs.declared.Class.the-variants as class
 use Rattle.judging.specs.declared.Kind.{Kind}
@@ -38,12 +39,12 @@ releaseComplete causeRead.Unreadable = reply.ReleaseCompleteWith (because 100 (d
 releaseComplete (causeRead.Number n) = reply.ReleaseComplete
 
 -- "RELEASE: in N12, gone, no reply. Else gone, RELEASE COMPLETE"
-abbrev pub releaseReply : Phase → CauseRead → Reply
+abbrev pub releaseReply : State → CauseRead → Reply
 releaseReply N3 c = releaseComplete c
 releaseReply (N6 d) c = releaseComplete c
 releaseReply (N9 d) c = releaseComplete c
 releaseReply N10 c = releaseComplete c
-releaseReply (N12 k) c = reply.None
+releaseReply (N12 k d) c = reply.None
 
 -- "STATUS: without a readable Call state, nothing; live call and state 0, gone; .. else nothing."
 abbrev pub statusVerdict : CallStateRead → Verdict
@@ -52,30 +53,30 @@ statusVerdict callStateRead.Unreadable = silent
 statusVerdict (callStateRead.Value s) = cond (eqb s 0) (ended reply.None) silent
 
 -- "STATUS ENQUIRY: STATUS cause 30."; "with the type as diagnostic and the current state"
-abbrev pub statusOf : Phase → ℕ → Diagnostic → Reply
-statusOf phase n d = reply.Status (stateNumber phase) (because n d)
+abbrev pub statusOf : State → ℕ → Diagnostic → Reply
+statusOf state n d = reply.Status (stateNumber state) (because n d)
 
 -- "6. Contents." "CALL PROCEEDING: N6 to N9, T310." ("T310 10,000") "CONNECT: N6 or N9 to N10, reply CONNECT ACKNOWLEDGE, notice 2."
 -- "CONNECT ACKNOWLEDGE: N10, nothing." "RELEASE COMPLETE: gone." RELEASE, STATUS ENQUIRY and STATUS as above
-abbrev pub contentsVerdict : Kind → List ℕ → Phase → ℕ → Verdict
-contentsVerdict kind.CallProceeding m phase reading = turned (N9 (reading + 10000)) reply.None 0
-contentsVerdict kind.Connect m phase reading = turned N10 reply.ConnectAcknowledge 2
-contentsVerdict kind.ConnectAcknowledge m phase reading = silent
-contentsVerdict kind.Release m phase reading = ended (releaseReply phase (causeIn m 9))
-contentsVerdict kind.ReleaseComplete m phase reading = ended reply.None
-contentsVerdict kind.StatusEnquiry m phase reading = answered (statusOf phase 30 diagnostic.None)
-contentsVerdict kind.Status m phase reading = statusVerdict (callStateIn m 9)
+abbrev pub contentsVerdict : Kind → List ℕ → State → ℕ → Verdict
+contentsVerdict kind.CallProceeding m state reading = moved (N9 (reading + t310)) reply.None 0
+contentsVerdict kind.Connect m state reading = moved N10 reply.ConnectAcknowledge 2
+contentsVerdict kind.ConnectAcknowledge m state reading = silent
+contentsVerdict kind.Release m state reading = ended (releaseReply state (causeIn m 9))
+contentsVerdict kind.ReleaseComplete m state reading = ended reply.None
+contentsVerdict kind.StatusEnquiry m state reading = answered (statusOf state 30 diagnostic.None)
+contentsVerdict kind.Status m state reading = statusVerdict (callStateIn m 9)
 
 -- "4. Live call: unknown type gets STATUS 97; a known type not expected gets STATUS 101, both with the type as diagnostic and
 -- the current state." "5. Length field not equal to the octets after octet 9: ignored (house)."
-abbrev pub judgedAs : Class → List ℕ → Header → Phase → ℕ → Verdict
-judgedAs class.Ignored m h phase reading = silent
-judgedAs class.Unknown m h phase reading = answered (statusOf phase 97 (diagnostic.Octet (h .kind)))
-judgedAs class.Unexpected m h phase reading = answered (statusOf phase 101 (diagnostic.Octet (h .kind)))
-judgedAs (class.Expected k) m h phase reading = cond (h .whole) (contentsVerdict k m phase reading) silent
+abbrev pub judgedAs : Class → List ℕ → Header → State → ℕ → Verdict
+judgedAs class.Ignored m h state reading = silent
+judgedAs class.Unknown m h state reading = answered (statusOf state 97 (diagnostic.Octet (h .kind)))
+judgedAs class.Unexpected m h state reading = answered (statusOf state 101 (diagnostic.Octet (h .kind)))
+judgedAs (class.Expected k) m h state reading = cond (h .whole) (contentsVerdict k m state reading) silent
 
-abbrev pub judge : List ℕ → Header → Phase → ℕ → Verdict
-judge m h phase reading = judgedAs (classify (h .kind) phase) m h phase reading
+abbrev pub judge : List ℕ → Header → State → ℕ → Verdict
+judge m h state reading = judgedAs (classify (h .kind) state) m h state reading
 
 -- "no call and state not 0, RELEASE COMPLETE 101 without diagnostic"
 abbrev pub statusReply : CallStateRead → Reply

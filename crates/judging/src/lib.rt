@@ -5,7 +5,8 @@
 //   no_call_reply             the reply to a message on no call, other than SETUP
 //   global_reply              the reply to a message on the global reference, other than RESTART with flag 0
 // `judge` asks for a reading that is not refused. Assumes nothing.
-use calls::Phase;
+use calls::State;
+use calls::T310;
 use elements::CallStateRead;
 use elements::CauseRead;
 use header::Header;
@@ -15,10 +16,11 @@ use verdicts::Verdict;
 use verdicts::answered;
 use verdicts::because;
 use verdicts::ended;
+use verdicts::moved;
 use verdicts::plain_cause;
-use verdicts::turned;
 ghost use mathlib.Core.Path.{_≡_};
 ghost use Prim.Native.Nat.{_≤_};
+ghost use Rattle.calls.specs.Timers.{largestReading};
 ghost use Rattle.judging.specs.Class.{classify};
 ghost use Rattle.judging.specs.Judge.{releaseComplete, releaseReply, statusVerdict, statusOf, contentsVerdict, judge, statusReply, noCallReply, globalReply};
 ghost use Rattle.elements.specs.Values.{causeIn, callStateIn};
@@ -43,21 +45,21 @@ pub enum Kind {
 }
 
 // What a message of this type is to a call in this state; every other number is unknown.
-pub fn class_of(kind: u8, phase: Phase) -> Class
-    ensures { λ r. ⌜ r ≡ classify kind phase ⌝ }
+pub fn class_of(kind: u8, state: State) -> Class
+    ensures { λ r. ⌜ r ≡ classify kind state ⌝ }
 {
-    let state = phase.state_number();
+    let number = state.number();
     match kind {
-        0x02 => match state {
+        0x02 => match number {
             6 => Class::Expected(Kind::CallProceeding),
             _ => Class::Unexpected,
         },
         0x05 => Class::Ignored,
-        0x07 => match state {
+        0x07 => match number {
             6 | 9 => Class::Expected(Kind::Connect),
             _ => Class::Unexpected,
         },
-        0x0F => match state {
+        0x0F => match number {
             10 => Class::Expected(Kind::ConnectAcknowledge),
             _ => Class::Unexpected,
         },
@@ -71,15 +73,15 @@ pub fn class_of(kind: u8, phase: Phase) -> Class
     }
 }
 
-fn release_reply(m: &[u8], phase: Phase) -> Reply
-    ensures { λ r. ⌜ r ≡ releaseReply phase (causeIn (now (m .entry)) 9) ⌝ }
+fn release_reply(m: &[u8], state: State) -> Reply
+    ensures { λ r. ⌜ r ≡ releaseReply state (causeIn (now (m .entry)) 9) ⌝ }
 {
-    match phase {
-        Phase::N3 => release_complete(m),
-        Phase::N6(_) => release_complete(m),
-        Phase::N9(_) => release_complete(m),
-        Phase::N10 => release_complete(m),
-        Phase::N12(_) => Reply::None,
+    match state {
+        State::N3 => release_complete(m),
+        State::N6(_) => release_complete(m),
+        State::N9(_) => release_complete(m),
+        State::N10 => release_complete(m),
+        State::N12(_, _) => Reply::None,
     }
 }
 
@@ -109,40 +111,40 @@ fn status_verdict(m: &[u8]) -> Verdict
 }
 
 // The message is answered with STATUS, which says the call's state.
-fn stated(phase: Phase, number: u8, diagnostic: Diagnostic) -> Verdict
-    ensures { λ r. ⌜ r ≡ answered (statusOf phase number diagnostic) ⌝ }
+fn stated(state: State, number: u8, diagnostic: Diagnostic) -> Verdict
+    ensures { λ r. ⌜ r ≡ answered (statusOf state number diagnostic) ⌝ }
 {
-    answered(Reply::Status(phase.state_number(), because(number, diagnostic)))
+    answered(Reply::Status(state.number(), because(number, diagnostic)))
 }
 
 // An expected message whose length field is right.
-fn judge_contents(kind: Kind, m: &[u8], phase: Phase, reading: u64) -> Verdict
-    requires { ⌜ reading ≤ 4000000000000 ⌝ }
-    ensures { λ r. ⌜ r ≡ contentsVerdict kind (now (m .entry)) phase reading ⌝ }
+fn judge_contents(kind: Kind, m: &[u8], state: State, reading: u64) -> Verdict
+    requires { ⌜ reading ≤ largestReading ⌝ }
+    ensures { λ r. ⌜ r ≡ contentsVerdict kind (now (m .entry)) state reading ⌝ }
 {
     match kind {
-        Kind::CallProceeding => turned(Phase::N9(reading + 10000), Reply::None, 0),
-        Kind::Connect => turned(Phase::N10, Reply::ConnectAcknowledge, 2),
+        Kind::CallProceeding => moved(State::N9(reading + T310), Reply::None, 0),
+        Kind::Connect => moved(State::N10, Reply::ConnectAcknowledge, 2),
         Kind::ConnectAcknowledge => answered(Reply::None),
-        Kind::Release => ended(release_reply(m, phase)),
+        Kind::Release => ended(release_reply(m, state)),
         Kind::ReleaseComplete => ended(Reply::None),
-        Kind::StatusEnquiry => stated(phase, 30, Diagnostic::None),
+        Kind::StatusEnquiry => stated(state, 30, Diagnostic::None),
         Kind::Status => status_verdict(m),
     }
 }
 
 // A message on a live call.
-pub fn judge(m: &[u8], head: Header, phase: Phase, reading: u64) -> Verdict
-    requires { ⌜ reading ≤ 4000000000000 ⌝ }
-    ensures { λ r. ⌜ r ≡ judge (now (m .entry)) head phase reading ⌝ }
+pub fn judge(m: &[u8], head: Header, state: State, reading: u64) -> Verdict
+    requires { ⌜ reading ≤ largestReading ⌝ }
+    ensures { λ r. ⌜ r ≡ judge (now (m .entry)) head state reading ⌝ }
 {
-    match class_of(head.kind, phase) {
+    match class_of(head.kind, state) {
         Class::Ignored => answered(Reply::None),
-        Class::Unknown => stated(phase, 97, Diagnostic::Octet(head.kind)),
-        Class::Unexpected => stated(phase, 101, Diagnostic::Octet(head.kind)),
+        Class::Unknown => stated(state, 97, Diagnostic::Octet(head.kind)),
+        Class::Unexpected => stated(state, 101, Diagnostic::Octet(head.kind)),
         Class::Expected(kind) => {
             if head.whole {
-                return judge_contents(kind, m, phase, reading);
+                return judge_contents(kind, m, state, reading);
             }
             answered(Reply::None)
         }

@@ -1,7 +1,7 @@
 -- The outcome of an event: the answer with the table afterwards, and the reply's octets.
 --   Outcome        what the host gets, and what stands at the front of its room
---   effectReply    the octets of an effect's reply
---   stored, settled, sending    the table afterwards; the answer with it; that with the octets that are sent
+--   effectOctets   what an effect sends
+--   sending        the outcome of an effect: the table afterwards, the answer, and what is sent
 --   refusedWith    "A refusal answers reply length 0, notice 0 and no flags; table, last reading and reply room stay unchanged."
 --   acceptedAs     "An accepted event stores its reading"
 --   unlessRefused  a refusal number decides
@@ -11,11 +11,11 @@ use mathlib.Core.Bool.{Bool, false, cond}
 use mathlib.Core.List.{List, []}
 use lib.Dec.{eqb}
 use lib.ListN.{length}
-use Rattle.doubts.specs.Doubts.{doubtsOf, doubtsAfter}
-use Rattle.replies.specs.Reply.{replyOctets}
+use Rattle.replies.specs.Reply.{sentOctets}
 use Rattle.effects.specs.declared.Effect.{Effect}
-use Rattle.effects.specs.Effect.{noFlags}
+use Rattle.effects.specs.Change.{noFlags, flagsOf, noticeOf}
 use Rattle.table.specs.declared.Table.{Table}
+use Rattle.table.specs.Effects.{tableAfter}
 use Rattle.outcome.specs.declared.Answer.{Answer}
 
 pub record Outcome : Type 0 where
@@ -28,28 +28,26 @@ refusedWith t n = record {
   reply = [];
 }
 
-abbrev pub effectReply : Effect → List ℕ
-effectReply e = replyOctets (e .flag) (e .reference) (e .reply)
+-- what an effect sends; an offer's body goes with SETUP
+abbrev pub effectOctets : Effect → List ℕ → List ℕ
+effectOctets x body = sentOctets (x .flag) (x .reference) (x .outgoing) body
 
--- the table afterwards
-abbrev pub stored : Table → ℕ → Effect → Table
-stored t reading e = record { slots = e .slots; doubts = doubtsOf (doubtsAfter (e .doubt) (t .doubts .entries)); last = reading; pool = t .pool }
-
-abbrev pub settled : Table → ℕ → Effect → Bool → ℕ → Answer
-settled t reading e more size = record {
-  table = stored t reading e;
-  refusal = 0;
-  length = size;
-  notice = e .notice;
-  flags = e .flags;
-  more = more;
+-- an accepted event: the change is performed on the table, and the notice and the flags say what it did
+abbrev pub sending : Table → ℕ → Effect → Bool → List ℕ → Outcome
+sending t reading x more body = record {
+  answer = record {
+    table = tableAfter t reading (x .change);
+    refusal = 0;
+    length = length (effectOctets x body);
+    notice = noticeOf (x .change) (flagsOf (x .change) (t .slots));
+    flags = flagsOf (x .change) (t .slots);
+    more = more;
+  };
+  reply = effectOctets x body;
 }
 
-abbrev pub sending : Table → ℕ → Effect → Bool → List ℕ → Outcome
-sending t reading e more octets = record { answer = settled t reading e more (length octets); reply = octets }
-
 abbrev pub acceptedAs : Table → ℕ → Effect → Outcome
-acceptedAs t reading e = sending t reading e false (effectReply e)
+acceptedAs t reading x = sending t reading x false []
 
 abbrev pub unlessRefused : Table → ℕ → Outcome → Outcome
 unlessRefused t n o = cond (eqb n 0) o (refusedWith t n)

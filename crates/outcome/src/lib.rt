@@ -1,9 +1,9 @@
 // The answer of an event.
 //   Answer, Started     what an event answers, with the table afterwards
 //   refuse              the answer of a refusal
-//   settle, accept      the answer of an accepted event: its reading is stored, its reply written
-// Only `accept` has a `requires`: a room of 1,024 octets. It is no entry point; no event of control has a `requires`.
-// Assumes nothing.
+//   accept              the answer of an accepted event: its change is performed, its reading stored, its reply written
+// Only `accept` has a `requires`: a room of 1,024 octets, and a body of at most 512. It is no entry point; no event of control
+// has a `requires`. Assumes nothing.
 use effects::Effect;
 use slots::Flags;
 use table::Table;
@@ -11,7 +11,8 @@ ghost use mathlib.Core.Path.{_≡_};
 ghost use Prim.Native.Nat.{_≤_};
 ghost use lib.ListN.{length};
 ghost use Rattle.octets.specs.Octets.{front};
-ghost use Rattle.outcome.specs.Outcome.{refusedWith, effectReply, settled, sending};
+ghost use Rattle.replies.specs.Reply.{replyRoom, bodyRoom};
+ghost use Rattle.outcome.specs.Outcome.{refusedWith, sending};
 
 // What an event answers, with the table afterwards. `more`: after a tick, whether another timer is due.
 pub struct Answer {
@@ -43,38 +44,31 @@ pub fn refuse(table: Table, number: u8) -> Answer
     }
 }
 
-// An accepted event with a reply of so many octets: its reading is stored.
-pub fn settle(table: Table, reading: u64, effect: Effect, more: bool, size: usize) -> Answer
-    ensures { λ r. ⌜ r ≡ settled table reading effect more size ⌝ }
+// An accepted event. Its reply is written last.
+pub fn accept(
+    table: Table,
+    reading: u64,
+    effect: Effect,
+    more: bool,
+    body: &[u8],
+    room: &mut [u8],
+) -> Answer
+    requires { ⌜ (replyRoom ≤ length (now room)) × (length (now body) ≤ bodyRoom) ⌝ }
+    ensures { λ r. ⌜ (r ≡ sending table reading effect more (now (body .entry)) .answer)
+        × (now (room .exit) ≡ front (sending table reading effect more (now (body .entry)) .reply) (now (room .entry))) ⌝ }
 {
-    let slots = effect.slots;
-    let flags = effect.flags;
-    let doubt = effect.doubt;
-    let doubts = table.doubts;
-    let pool = table.pool;
-    let next = Table {
-        slots: slots,
-        doubts: doubts.after(doubt),
-        last: reading,
-        pool: pool,
-    };
+    let change = effect.change;
+    let outgoing = effect.outgoing;
+    let flags = table.flags(change);
+    let notice = table.notice(change);
+    let next = table.after(reading, change);
+    let n = replies::send(room, effect.flag, effect.reference, outgoing, body);
     Answer {
         table: next,
         refusal: 0,
-        length: size,
-        notice: effect.notice,
+        length: n,
+        notice: notice,
         flags: flags,
         more: more,
     }
-}
-
-// An accepted event: its reply is written.
-pub fn accept(table: Table, reading: u64, effect: Effect, more: bool, room: &mut [u8]) -> Answer
-    requires { ⌜ 1024 ≤ length (now room) ⌝ }
-    ensures { λ r. ⌜ (r ≡ sending table reading effect more (effectReply effect) .answer)
-        × (now (room .exit) ≡ front (effectReply effect) (now (room .entry))) ⌝ }
-{
-    let reply = effect.reply;
-    let n = replies::write(room, effect.flag, effect.reference, reply);
-    settle(table, reading, effect, more, n)
 }

@@ -4,7 +4,8 @@ use Prim.Native.Nat.{ℕ}
 use mathlib.Core.Path.{_≡_, refl}
 use mathlib.Core.Bool.{true, false}
 use mathlib.Core.List.{List, [], _∷_}
-use Rattle.channels.specs.Channels.{taken, lowest}
+use Rattle.channels.specs.Channels.{permanent, lowest}
+use Rattle.channels.specs.declared.Channel.{Channel}
 use Rattle.channels.specs.declared.Channel.the-variants.{Pair}
 use Rattle.provisioning.specs.Provisioning.{provision}
 
@@ -12,10 +13,14 @@ use Rattle.provisioning.specs.Provisioning.{provision}
 abbrev twoChannels : List ℕ
 twoChannels = 0 ∷ 32 ∷ 33 ∷ []
 
-pub two-channels-lowest : lowest (taken [] [] []) ((provision twoChannels []) .pool .ranges) ≡ Pair 0 32
+-- the lowest pair of a start, where only the permanent pairs are taken
+abbrev lowestOf : List ℕ → List ℕ → Channel
+lowestOf ranges permanents = lowest (permanent ((provision ranges permanents) .pool)) ((provision ranges permanents) .pool .ranges)
+
+pub two-channels-lowest : lowestOf twoChannels [] ≡ Pair 0 32
 two-channels-lowest = refl
 
-pub permanent-is-passed : lowest (taken [] [] ((provision twoChannels (0 ∷ 32 ∷ [])) .pool .permanents)) ((provision twoChannels (0 ∷ 32 ∷ [])) .pool .ranges) ≡ Pair 0 33
+pub permanent-is-passed : lowestOf twoChannels (0 ∷ 32 ∷ []) ≡ Pair 0 33
 permanent-is-passed = refl
 
 pub touching-accepted : (provision (0 ∷ 32 ∷ 33 ∷ 0 ∷ 34 ∷ 65535 ∷ []) []) .accepted ≡ true

@@ -1,7 +1,7 @@
 -- Laws for the loops of the reader.
 --   Listed, listed-none, listed-more, listed-list     numbers read into an array
 --   Walked, walked-none, walked-more, walked-all      slots read into an array, their fields one behind the other
---   Filled, filled-none, filled-more, filled-all      an array filled with the values of a function
+--   fours-more, four-next                             numbers of four octets read into an array
 --   counted                             the length of the front of an array
 --   provision-same, table-parts         the whole table
 -- Assumes nothing.
@@ -17,12 +17,11 @@ use lib.Seq.{getD-drop, getD-set-same, getD-set-other, take-suc-set, take-all}
 use borrow.Author.Tests.{eqb-true, eqb-false}
 use Rattle.channels.proofs.Cases.{by-test}
 use Rattle.channels.specs.declared.Pool.{Pool}
-use Rattle.doubts.specs.declared.Doubts.{Doubts}
-use Rattle.doubts.specs.Doubts.{doubtsOf}
-use Rattle.provisioning.specs.Provisioning.{numbered, provision}
+use Rattle.pairs.specs.declared.Pairs.{Pairs}
+use Rattle.provisioning.specs.Provisioning.{provision}
 use Rattle.calls.specs.declared.Slot.{Slot}
 use Rattle.slots.specs.declared.Slots.{Slots}
-use Rattle.reading.specs.Reading.{twoAt, eightAt, rest, numbersIn, least, listIn, entriesIn, slotIn, behindSlot, slotsIn, tableWith}
+use Rattle.reading.specs.Reading.{twoAt, fourAt, eightAt, rest, numbersIn, least, listIn, foursIn, doubtsIn, slotIn, behindSlot, slotsIn, tableWith}
 
 -- the first k numbers of the contents are read
 pub record Listed (f numbers : List ℕ) (k : ℕ) : Type 0 where
@@ -32,6 +31,11 @@ two-behind : (n : ℕ) (f : List ℕ) (k : ℕ) → twoAt (drop n f) k ≡ twoAt
 two-behind n f k =
     let e : n + (k + 1) ≡ n + k + 1 = omega arith in
     rw (getD-drop n f k 0, getD-drop n f (k + 1) 0, e)
+
+four-behind : (n : ℕ) (f : List ℕ) (k : ℕ) → fourAt (drop n f) k ≡ fourAt f (n + k)
+four-behind n f k =
+    let e : n + (k + 2) ≡ n + k + 2 = omega arith in
+    rw (two-behind n f k, two-behind n f (k + 2), e)
 
 taken : (n : ℕ) (f a : List ℕ) → n ≤ length a → ((j : ℕ) → j < n → getD a j 0 ≡ twoAt f (j * 2)) → take n a ≡ numbersIn f n
 taken zero f a h each = refl
@@ -91,25 +95,16 @@ walked-all f at n all next i h k w =
     let none : n - i ≡ 0 = omega arith in
     sym (w .same ∙ rw (none, slots-zero i (drop next f), take-all i all k) (append-nil all))
 
--- the first k of n values are in the array
-pub record Filled {A : Type 0} (f : ℕ → A) (n : ℕ) (all : List A) (k : ℕ) : Type 0 where
-  pub same : numbered f 0 n ≡ take k all ++ numbered f k (n - k)
+-- one number of four octets more
+pub fours-more : (f : List ℕ) (k : ℕ) → foursIn f (suc k) ≡ foursIn f k ++ (fourAt f (k * 4) ∷ [])
+fours-more f zero = refl
+fours-more f (suc k) =
+    let e : suc k * 4 ≡ 4 + k * 4 = omega arith in
+    ap (λ (l : List ℕ). fourAt f 0 ∷ l) (fours-more (drop 4 f) k ∙ rw (four-behind 4 f (k * 4), e))
 
-module _ {A : Type 0} (f : ℕ → A) (n : ℕ) (all : List A) where
-  pub filled-none : Filled f n all 0
-  filled-none = let e : n ≡ n - 0 = omega arith in record { same = ap (numbered f 0) e }
-
-  pub filled-more : (k : ℕ) (v : A) → k < n → k < length all → v ≡ f k → Filled f n all k → Filled f n (set all k v) (k + 1)
-  filled-more k v h size e w =
-      let one : n - k ≡ suc (n - (k + 1)) = omega arith in
-      let left : numbered f k (n - k) ≡ v ∷ numbered f (k + 1) (n - (k + 1)) = ap (numbered f k) one ∙ rw e in
-      let front : take (k + 1) (set all k v) ≡ take k all ++ (v ∷ []) = rw (add-one k) (take-suc-set all k v size) in
-      record { same = w .same ∙ ap (λ (r : List A). take k all ++ r) left ∙ sym (append-assoc (take k all) (v ∷ []) _) ∙ ap (λ (r : List A). r ++ numbered f (k + 1) (n - (k + 1))) (sym front) }
-
-  pub filled-all : (k : ℕ) → n ≤ k → length all ≤ k → Filled f n all k → all ≡ numbered f 0 n
-  filled-all k h size w =
-      let none : n - k ≡ 0 = omega arith in
-      sym (w .same ∙ rw (none, take-all k all size) (append-nil all))
+pub four-next : (f ns : List ℕ) (k v : ℕ) → k < length ns → v ≡ fourAt f (3 + k * 4) → take k ns ≡ foursIn (drop 3 f) k
+    → take (k + 1) (set ns k v) ≡ foursIn (drop 3 f) (k + 1)
+four-next f ns k v h e left = rw (add-one k, fours-more (drop 3 f) k, four-behind 3 f (k * 4), ← e, ← left) (take-suc-set ns k v h)
 
 pub counted : (n : ℕ) (a : List ℕ) → n ≤ length a → n ≡ length (take n a)
 counted n a h = simp length-take (omega arith)
@@ -119,7 +114,7 @@ pub provision-same : (rs ps rs₁ ps₁ : List ℕ) → rs ≡ rs₁ → ps ≡ 
 provision-same rs ps rs₁ ps₁ a b = ap (λ (r : List ℕ). provision r ps) a ∙ ap (provision rs₁) b
 
 -- the table, by its parts
-pub table-parts : (f f₂ f₃ f₄ : List ℕ) (ss : Slots) (ds : Doubts) (n : ℕ) (pool : Pool) (count : ℕ) → rest (rest f) ≡ f₂ → rest f₂ ≡ f₃ → rest f₃ ≡ f₄
-    → ss .all ≡ slotsIn 0 f₄ count → ds ≡ doubtsOf (entriesIn (listIn 128 f₃)) → n ≡ eightAt f₂ 3
-    → record { slots = ss; doubts = ds; last = n; pool = pool } ≡ tableWith pool count f
-table-parts f f₂ f₃ f₄ ss ds n pool count a b c d e g = rw (a, b, c, ← d, ← e, ← g)
+pub table-parts : (f f₂ f₃ f₄ : List ℕ) (ss : Slots) (n : ℕ) (ds : Pairs) (pool : Pool) (count : ℕ) → rest (rest f) ≡ f₂ → rest f₂ ≡ f₃ → rest f₃ ≡ f₄
+    → ss .all ≡ slotsIn 0 f₄ count → n ≡ eightAt f₂ 3 → ds ≡ doubtsIn f₃
+    → record { slots = ss; last = n; doubts = ds; pool = pool } ≡ tableWith pool count f
+table-parts f f₂ f₃ f₄ ss n ds pool count a b c d e g = rw (a, b, c, ← d, ← e, ← g)

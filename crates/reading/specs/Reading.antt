@@ -1,11 +1,11 @@
 -- What octets say as a saved form (docs/FORMATS.md, "Saved tables"), read with no question asked: past the end stand zeros, and
 -- what is not a form reads as some table, whose form is another.
---   twoAt, eightAt            numbers at a place
+--   twoAt, fourAt, eightAt    numbers at a place
 --   rest                      the octets behind the first field
 --   numbersIn, least, listIn  numbers of two octets; those of the first field, at most so many
 --   rangeNumbers, pairNumbers the two lists, as start takes them
---   doubtNumbers, entriesIn   the pairs in doubt
---   clearingIn, phaseIn, referenceIn, callIn     the live call of the first field
+--   foursIn, doubtsIn         numbers of four octets; the pairs in doubt of the first field
+--   clearingIn, stateIn, referenceIn, callIn     the live call of the first field
 --   begins, slotIn, behindSlot    a slot holds a call if the first field is its own
 --   slotsIn                   the slots
 --   tableWith, tableIn        the table, of so many slots: with a pool, and with its own
@@ -16,22 +16,24 @@ use mathlib.Core.List.{List, [], _∷_}
 use lib.Dec.{eqb, leb, ltb}
 use lib.ListN.{length, getD, drop}
 use Rattle.octets.specs.Octets.{number}
-use Rattle.channels.specs.declared.Entry.{Entry}
 use Rattle.channels.specs.declared.Pool.{Pool}
-use Rattle.doubts.specs.Doubts.{doubtRoom, doubtsOf}
+use Rattle.pairs.specs.declared.Pairs.{Pairs}
+use Rattle.pairs.specs.Pairs.{room, packed}
 use Rattle.calls.specs.declared.Clearing.{Clearing}
-use Rattle.calls.specs.declared.Phase.{Phase}
-use Rattle.calls.specs.declared.Phase.the-variants.{N3, N6, N9, N10, N12}
+use Rattle.calls.specs.declared.State.{State}
+use Rattle.calls.specs.declared.State.the-variants.{N3, N6, N9, N10, N12}
 use Rattle.calls.specs.declared.Call.{Call}
-use Rattle.calls.specs.declared.Hold.the-variants.{Live}
 use Rattle.calls.specs.declared.Slot.{Slot}
-use Rattle.calls.specs.Calls.{noSlot}
+use Rattle.calls.specs.Calls.{noSlot, liveSlot}
 use Rattle.slots.specs.Slots.{slotsOf}
-use Rattle.provisioning.specs.Provisioning.{entryAt, numbered, provision}
+use Rattle.provisioning.specs.Provisioning.{provision}
 use Rattle.table.specs.declared.Table.{Table}
 
 abbrev pub twoAt : List ℕ → ℕ → ℕ
 twoAt f k = number (getD f k 0) (getD f (k + 1) 0)
+
+abbrev pub fourAt : List ℕ → ℕ → ℕ
+fourAt f k = twoAt f k * 65536 + twoAt f (k + 2)
 
 abbrev pub eightAt : List ℕ → ℕ → ℕ
 eightAt f k = twoAt f k * 281474976710656 + twoAt f (k + 2) * 4294967296 + twoAt f (k + 4) * 65536 + twoAt f (k + 6)
@@ -51,29 +53,30 @@ least a b = cond (ltb a b) a b
 abbrev pub listIn : ℕ → List ℕ → List ℕ
 listIn most f = numbersIn (drop 3 f) (least most (twoAt f 1 / 2))
 
--- "1 to 4 ranges, 0 to 8 pairs"; "At most 64 pairs are in doubt"
+-- "1 to 4 ranges, 0 to 8 pairs"
 abbrev pub rangeNumbers : List ℕ → List ℕ
 rangeNumbers f = listIn 12 f
 
 abbrev pub pairNumbers : List ℕ → List ℕ
 pairNumbers f = listIn 16 (rest f)
 
-abbrev pub doubtNumbers : List ℕ → List ℕ
-doubtNumbers f = listIn 128 (rest (rest (rest f)))
+-- "At most 64 pairs are in doubt": each is one number of four octets
+abbrev pub foursIn : List ℕ → ℕ → List ℕ
+foursIn f zero = []
+foursIn f (suc n) = fourAt f 0 ∷ foursIn (drop 4 f) n
 
--- two numbers for each pair
-abbrev pub entriesIn : List ℕ → List Entry
-entriesIn ns = numbered (entryAt ns) 0 doubtRoom
+abbrev pub doubtsIn : List ℕ → Pairs
+doubtsIn f = packed (foursIn (drop 3 f) (least room (twoAt f 1 / 4)))
 
 -- behind tag and length: 3 the slot, 4 to 6 the flagged reference, 7 VPCI, 9 VCI, 11 the state, 12 the deadline, 20 first or second
 -- T308, 21 the cause. Cause 102 has the diagnostic "310", every other cause none
 abbrev pub clearingIn : List ℕ → Clearing
-clearingIn f = record { deadline = eightAt f 12; second = eqb (getD f 20 0) 2; cause = getD f 21 0; expired = eqb (getD f 21 0) 102 }
+clearingIn f = record { second = eqb (getD f 20 0) 2; cause = getD f 21 0; expired = eqb (getD f 21 0) 102 }
 
-abbrev pub phaseIn : List ℕ → Phase
-phaseIn f =
+abbrev pub stateIn : List ℕ → State
+stateIn f =
     cond (eqb (getD f 11 0) 6) (N6 (eightAt f 12))
-    (cond (eqb (getD f 11 0) 9) (N9 (eightAt f 12)) (cond (eqb (getD f 11 0) 10) N10 (cond (eqb (getD f 11 0) 12) (N12 (clearingIn f)) N3)))
+    (cond (eqb (getD f 11 0) 9) (N9 (eightAt f 12)) (cond (eqb (getD f 11 0) 10) N10 (cond (eqb (getD f 11 0) 12) (N12 (clearingIn f) (eightAt f 12)) N3)))
 
 abbrev pub referenceIn : List ℕ → ℕ
 referenceIn f = getD f 4 0 % 128 * 65536 + getD f 5 0 * 256 + getD f 6 0
@@ -81,17 +84,16 @@ referenceIn f = getD f 4 0 % 128 * 65536 + getD f 5 0 * 256 + getD f 6 0
 abbrev pub callIn : List ℕ → Call
 callIn f = record {
   network = leb 128 (getD f 4 0);
-  reference = referenceIn f;
   vpci = twoAt f 7;
   vci = twoAt f 9;
-  phase = phaseIn f;
+  reference = referenceIn f;
 }
 
 abbrev pub begins : ℕ → List ℕ → Bool
 begins slot f = ltb 0 (length f) && eqb (getD f 3 0) slot
 
 abbrev pub slotIn : ℕ → List ℕ → Slot
-slotIn slot f = cond (begins slot f) (record { hold = Live (callIn f) }) noSlot
+slotIn slot f = cond (begins slot f) (liveSlot (callIn f) (stateIn f)) noSlot
 
 abbrev pub behindSlot : ℕ → List ℕ → List ℕ
 behindSlot slot f = cond (begins slot f) (rest f) f
@@ -101,12 +103,12 @@ unfoldable pub slotsIn : ℕ → List ℕ → ℕ → List Slot
 slotsIn slot f zero = []
 slotsIn slot f (suc n) = slotIn slot f ∷ slotsIn (slot + 1) (behindSlot slot f) n
 
--- the last reading, the pairs in doubt, the calls, beside a pool; over the number of slots
+-- the calls, the last reading, the pairs in doubt, beside a pool; over the number of slots
 abbrev pub tableWith : Pool → ℕ → List ℕ → Table
 tableWith pool count f = record {
   slots = slotsOf (slotsIn 0 (rest (rest (rest (rest f)))) count);
-  doubts = doubtsOf (entriesIn (doubtNumbers f));
   last = eightAt (rest (rest f)) 3;
+  doubts = doubtsIn (rest (rest (rest f)));
   pool = pool;
 }
 

@@ -5,26 +5,25 @@
 // Assumes nothing.
 use calls::Call;
 use calls::Clearing;
-use calls::Hold;
-use calls::Phase;
 use calls::Slot;
-use channels::Channel;
-use channels::Entry;
+use calls::State;
 use channels::Pool;
-use doubts::Doubts;
+use pairs::Pairs;
+use pairs::ROOM;
 use provisioning::Provision;
+use slots::SLOTS;
 use slots::Slots;
 use table::Table;
 ghost use mathlib.Core.Path.{_≡_};
 ghost use Prim.Native.Nat.{_+_, _≤_};
 ghost use lib.ListN.{length, getD, take, drop};
-ghost use Rattle.doubts.specs.Doubts.{doubtsOf};
+ghost use Rattle.slots.specs.Slots.{slotCount};
 ghost use Rattle.provisioning.specs.Provisioning.{provision};
-ghost use Rattle.reading.specs.Reading.{twoAt, eightAt, rest, least, listIn, rangeNumbers, pairNumbers, entriesIn, clearingIn, phaseIn, referenceIn, callIn, begins, slotIn, behindSlot, slotsIn, tableWith};
+ghost use Rattle.reading.specs.Reading.{twoAt, fourAt, eightAt, rest, least, listIn, rangeNumbers, pairNumbers, doubtsIn, clearingIn, stateIn, referenceIn, callIn, begins, slotIn, behindSlot, slotsIn, tableWith};
 
-// A list of start or the pairs in doubt, in the front of an array.
+// A list of start, in the front of an array.
 struct List {
-    numbers: [u16; 128],
+    numbers: [u16; 16],
     n: usize,
 }
 
@@ -47,6 +46,15 @@ fn two_in(form: &[u8], at: usize, k: usize) -> u16
     ensures { λ r. ⌜ r ≡ twoAt (drop at (now (form .entry))) k ⌝ }
 {
     octets::number(octet_in(form, at, k), octet_in(form, at, k + 1))
+}
+
+fn four_in(form: &[u8], at: usize, k: usize) -> u32
+    requires { ⌜ (at ≤ 4294967296) × (k ≤ 508) ⌝ }
+    ensures { λ r. ⌜ r ≡ fourAt (drop at (now (form .entry))) k ⌝ }
+{
+    let first = two_in(form, at, k) as u32;
+    let second = two_in(form, at, k + 2) as u32;
+    first * 65536 + second
 }
 
 fn eight_in(form: &[u8], at: usize, k: usize) -> u64
@@ -82,13 +90,13 @@ fn least(a: usize, b: usize) -> usize
 
 // The numbers of the field at a place, at most so many.
 fn list_in(form: &[u8], at: usize, most: usize) -> List
-    requires { ⌜ (at ≤ 4294967296) × (most ≤ 128) ⌝ }
+    requires { ⌜ (at ≤ 4294967296) × (most ≤ 16) ⌝ }
     ensures { λ r. ⌜ take (r .n) (r .numbers) ≡ listIn most (drop at (now (form .entry))) ⌝ }
-    ensures few { λ r. ⌜ (r .n ≤ 128) × (length (r .numbers) ≡ 128) ⌝ }
+    ensures few { λ r. ⌜ (r .n ≤ 16) × (length (r .numbers) ≡ 16) ⌝ }
 {
-    let mut numbers = [0u16; 128];
+    let mut numbers = [0u16; 16];
     let mut k: usize = 0;
-    while k < 128 {
+    while k < 16 {
         numbers[k] = two_in(form, at, 3 + k * 2);
         k += 1;
     }
@@ -112,50 +120,48 @@ pub fn provision_of(form: &[u8]) -> Provision
     provisioning::pool_of(&first[..r], &second[..p])
 }
 
-// The pairs in doubt, their field at a place.
-fn doubts_in(form: &[u8], at: usize) -> Doubts
+// The pairs in doubt, their field at a place: behind them stand zeros.
+fn doubts_in(form: &[u8], at: usize) -> Pairs
     requires { ⌜ at ≤ 4294967296 ⌝ }
-    ensures { λ r. ⌜ r ≡ doubtsOf (entriesIn (listIn 128 (drop at (now (form .entry))))) ⌝ }
+    ensures { λ r. ⌜ r ≡ doubtsIn (drop at (now (form .entry))) ⌝ }
 {
-    let list = list_in(form, at, 128);
-    let n = list.n;
-    let numbers = list.numbers;
-    let entry = Entry {
-        channel: Channel::None,
-    };
-    let mut entries = [entry; 64];
+    let size = two_in(form, at, 1) as usize;
+    let n = least(ROOM, size / 4);
+    let mut numbers = [0; ROOM];
     let mut k: usize = 0;
-    while k < 64 {
-        entries[k] = provisioning::entry_at(&numbers[..n], k);
+    while k < n {
+        numbers[k] = four_in(form, at, 3 + k * 4);
         k += 1;
     }
-    Doubts { entries: entries }
+    Pairs {
+        count: n,
+        numbers: numbers,
+    }
 }
 
-// T308, and why the call is cleared.
+// Which T308 runs, and why the call is cleared.
 fn clearing_in(form: &[u8], at: usize) -> Clearing
     requires { ⌜ at ≤ 4294967296 ⌝ }
     ensures { λ r. ⌜ r ≡ clearingIn (drop at (now (form .entry))) ⌝ }
 {
     let cause = octet_in(form, at, 21);
     Clearing {
-        deadline: eight_in(form, at, 12),
         second: octet_in(form, at, 20) == 2,
         cause: cause,
         expired: cause == 102,
     }
 }
 
-fn phase_in(form: &[u8], at: usize) -> Phase
+fn state_in(form: &[u8], at: usize) -> State
     requires { ⌜ at ≤ 4294967296 ⌝ }
-    ensures { λ r. ⌜ r ≡ phaseIn (drop at (now (form .entry))) ⌝ }
+    ensures { λ r. ⌜ r ≡ stateIn (drop at (now (form .entry))) ⌝ }
 {
     match octet_in(form, at, 11) {
-        6 => Phase::N6(eight_in(form, at, 12)),
-        9 => Phase::N9(eight_in(form, at, 12)),
-        10 => Phase::N10,
-        12 => Phase::N12(clearing_in(form, at)),
-        _ => Phase::N3,
+        6 => State::N6(eight_in(form, at, 12)),
+        9 => State::N9(eight_in(form, at, 12)),
+        10 => State::N10,
+        12 => State::N12(clearing_in(form, at), eight_in(form, at, 12)),
+        _ => State::N3,
     }
 }
 
@@ -175,10 +181,9 @@ fn call_in(form: &[u8], at: usize) -> Call
 {
     Call {
         network: 128 <= octet_in(form, at, 4),
-        reference: reference_in(form, at),
         vpci: two_in(form, at, 7),
         vci: two_in(form, at, 9),
-        phase: phase_in(form, at),
+        reference: reference_in(form, at),
     }
 }
 
@@ -200,10 +205,9 @@ fn step_in(form: &[u8], at: usize, slot: usize) -> Step
     ensures near { λ r. ⌜ r .next ≤ at + 65538 ⌝ }
 {
     if is_begun(form, at, slot) {
-        let live = Hold::Live(call_in(form, at));
-        let held = Slot { hold: live };
+        let live = Slot::live(call_in(form, at), state_in(form, at));
         return Step {
-            slot: held,
+            slot: live,
             next: behind(form, at),
         };
     }
@@ -217,13 +221,13 @@ fn step_in(form: &[u8], at: usize, slot: usize) -> Step
 // The slots, their fields from a place on.
 fn slots_in(form: &[u8], at: usize) -> Slots
     requires { ⌜ at ≤ 262152 ⌝ }
-    ensures { λ r. ⌜ r .all ≡ slotsIn 0 (drop at (now (form .entry))) 32 ⌝ }
+    ensures { λ r. ⌜ r .all ≡ slotsIn 0 (drop at (now (form .entry))) slotCount ⌝ }
 {
     let empty = Slot::empty();
-    let mut all = [empty; 32];
+    let mut all = [empty; SLOTS];
     let mut next = at;
     let mut i: usize = 0;
-    while i < 32 {
+    while i < SLOTS {
         let one = step_in(form, next, i);
         let slot = one.slot;
         all[i] = slot;
@@ -235,7 +239,7 @@ fn slots_in(form: &[u8], at: usize) -> Slots
 
 // The table that the octets say, with a pool.
 pub fn table_of(form: &[u8], pool: Pool) -> Table
-    ensures { λ r. ⌜ r ≡ tableWith pool 32 (now (form .entry)) ⌝ }
+    ensures { λ r. ⌜ r ≡ tableWith pool slotCount (now (form .entry)) ⌝ }
 {
     let pairs = behind(form, 0);
     let reading = behind(form, pairs);
@@ -245,8 +249,8 @@ pub fn table_of(form: &[u8], pool: Pool) -> Table
     let doubts = doubts_in(form, doubtful);
     Table {
         slots: all,
-        doubts: doubts,
         last: eight_in(form, reading, 3),
+        doubts: doubts,
         pool: pool,
     }
 }

@@ -6,13 +6,17 @@
 //   body_refusal                        10; offer itself finds 11 and 12, where it looks for a slot and a pair
 // Nothing has a `requires`. What a 0 says of the numbers is a second promise (`passed`), for those who go on. Assumes nothing.
 use calls::Hold;
-use calls::Phase;
-use table::Table;
+use calls::LARGEST_READING;
+use calls::State;
+use replies::BODY_ROOM;
+use replies::REPLY_ROOM;
 ghost use mathlib.Core.Path.{_≡_};
 ghost use Prim.Native.Nat.{_≤_, _<_};
 ghost use lib.ListN.{length};
+ghost use Rattle.calls.specs.Timers.{largestReading};
+ghost use Rattle.replies.specs.Reply.{replyRoom, bodyRoom};
 ghost use Rattle.traffic.specs.Traffic.{member};
-ghost use Rattle.refusals.specs.Refusals.{commonRefusal, sizeRefusal, messageRefusal, holdAt, Within, notN3, unconnectable, connectRefusal, inN12, unclearable, hostCauses, causeRefusal, clearRefusal, bodyRefusal};
+ghost use Rattle.refusals.specs.Refusals.{commonRefusal, sizeRefusal, messageRefusal, IsCall, notN3, unconnectable, connectRefusal, inN12, unclearable, hostCauses, causeRefusal, clearRefusal, bodyRefusal};
 
 // The cause numbers that the host may use.
 const HOST_CAUSES: [u64; 17] = [
@@ -35,21 +39,21 @@ const HOST_CAUSES: [u64; 17] = [
     88,
 ];
 
-// Refusals 1 to 4.
-pub fn common_refusal(table: Table, label: u64, reading: u64, room: usize) -> u8
-    ensures { λ r. ⌜ r ≡ commonRefusal table label reading room ⌝ }
-    ensures passed { λ r. ⌜ (r ≡ 0 → (1024 ≤ room) × (reading ≤ 4000000000000)) ⌝ }
+// Refusals 1 to 4; `last` is the last accepted reading.
+pub fn common_refusal(last: u64, label: u64, reading: u64, room: usize) -> u8
+    ensures { λ r. ⌜ r ≡ commonRefusal last label reading room ⌝ }
+    ensures passed { λ r. ⌜ (r ≡ 0 → (replyRoom ≤ room) × (reading ≤ largestReading)) ⌝ }
 {
-    if room < 1024 {
+    if room < REPLY_ROOM {
         return 1;
     }
     if label != 1 {
         return 2;
     }
-    if 4000000000000 < reading {
+    if LARGEST_READING < reading {
         return 3;
     }
-    if reading < table.last {
+    if reading < last {
         return 4;
     }
     0
@@ -69,40 +73,27 @@ fn size_refusal(m: &[u8]) -> u8
 }
 
 // Refusals 1 to 5, of message.
-pub fn message_refusal(table: Table, label: u64, reading: u64, room: usize, m: &[u8]) -> u8
-    ensures { λ r. ⌜ r ≡ messageRefusal table label reading room (now (m .entry)) ⌝ }
-    ensures passed { λ r. ⌜ (r ≡ 0 → (1024 ≤ room) × (reading ≤ 4000000000000)) ⌝ }
+pub fn message_refusal(last: u64, label: u64, reading: u64, room: usize, m: &[u8]) -> u8
+    ensures { λ r. ⌜ r ≡ messageRefusal last label reading room (now (m .entry)) ⌝ }
+    ensures passed { λ r. ⌜ (r ≡ 0 → (replyRoom ≤ room) × (reading ≤ largestReading)) ⌝ }
 {
-    let n = common_refusal(table, label, reading, room);
+    let n = common_refusal(last, label, reading, room);
     if n != 0 {
         return n;
     }
     size_refusal(m)
 }
 
-// What a slot holds; one that the table lacks holds nothing.
-fn hold_at(table: Table, slot: u64) -> Hold
-    ensures { λ r. ⌜ r ≡ holdAt table slot ⌝ }
-    ensures within { λ r. ⌜ Within slot r ⌝ }
-{
-    if 32 <= slot {
-        return Hold::Empty;
-    }
-    let slots = table.slots;
-    let found = slots.slot_at(slot as usize);
-    found.hold
-}
-
 // Refusal 7 of connect.
-fn not_n3(phase: Phase) -> u8
-    ensures { λ r. ⌜ r ≡ notN3 phase ⌝ }
+fn not_n3(state: State) -> u8
+    ensures { λ r. ⌜ r ≡ notN3 state ⌝ }
 {
-    match phase {
-        Phase::N3 => 0,
-        Phase::N6(_) => 7,
-        Phase::N9(_) => 7,
-        Phase::N10 => 7,
-        Phase::N12(_) => 7,
+    match state {
+        State::N3 => 0,
+        State::N6(_) => 7,
+        State::N9(_) => 7,
+        State::N10 => 7,
+        State::N12(_, _) => 7,
     }
 }
 
@@ -112,35 +103,32 @@ fn unconnectable(hold: Hold) -> u8
 {
     match hold {
         Hold::Empty => 6,
-        Hold::Live(call) => {
-            let phase = call.phase;
-            not_n3(phase)
-        }
+        Hold::Live(_, state) => not_n3(state),
     }
 }
 
 // Refusals 1 to 4, 6 and 7, of connect.
-pub fn connect_refusal(table: Table, label: u64, reading: u64, room: usize, slot: u64) -> u8
-    ensures { λ r. ⌜ r ≡ connectRefusal table label reading room slot ⌝ }
-    ensures passed { λ r. ⌜ (r ≡ 0 → (1024 ≤ room) × (slot < 32)) ⌝ }
+pub fn connect_refusal(last: u64, label: u64, reading: u64, room: usize, hold: Hold) -> u8
+    ensures { λ r. ⌜ r ≡ connectRefusal last label reading room hold ⌝ }
+    ensures passed { λ r. ⌜ (r ≡ 0 → (replyRoom ≤ room) × IsCall hold) ⌝ }
 {
-    let n = common_refusal(table, label, reading, room);
+    let n = common_refusal(last, label, reading, room);
     if n != 0 {
         return n;
     }
-    unconnectable(hold_at(table, slot))
+    unconnectable(hold)
 }
 
 // Refusal 7 of clear.
-fn in_n12(phase: Phase) -> u8
-    ensures { λ r. ⌜ r ≡ inN12 phase ⌝ }
+fn in_n12(state: State) -> u8
+    ensures { λ r. ⌜ r ≡ inN12 state ⌝ }
 {
-    match phase {
-        Phase::N3 => 0,
-        Phase::N6(_) => 0,
-        Phase::N9(_) => 0,
-        Phase::N10 => 0,
-        Phase::N12(_) => 7,
+    match state {
+        State::N3 => 0,
+        State::N6(_) => 0,
+        State::N9(_) => 0,
+        State::N10 => 0,
+        State::N12(_, _) => 7,
     }
 }
 
@@ -150,10 +138,7 @@ fn unclearable(hold: Hold) -> u8
 {
     match hold {
         Hold::Empty => 6,
-        Hold::Live(call) => {
-            let phase = call.phase;
-            in_n12(phase)
-        }
+        Hold::Live(_, state) => in_n12(state),
     }
 }
 
@@ -183,22 +168,15 @@ fn cause_refusal(cause: u64) -> u8
 }
 
 // Refusals 1 to 4 and 6 to 8, of clear.
-pub fn clear_refusal(
-    table: Table,
-    label: u64,
-    reading: u64,
-    room: usize,
-    slot: u64,
-    cause: u64,
-) -> u8
-    ensures { λ r. ⌜ r ≡ clearRefusal table label reading room slot cause ⌝ }
-    ensures passed { λ r. ⌜ (r ≡ 0 → (1024 ≤ room) × (reading ≤ 4000000000000) × (slot < 32) × (cause < 128)) ⌝ }
+pub fn clear_refusal(last: u64, label: u64, reading: u64, room: usize, hold: Hold, cause: u64) -> u8
+    ensures { λ r. ⌜ r ≡ clearRefusal last label reading room hold cause ⌝ }
+    ensures passed { λ r. ⌜ (r ≡ 0 → (replyRoom ≤ room) × (reading ≤ largestReading) × IsCall hold × (cause < 128)) ⌝ }
 {
-    let n = common_refusal(table, label, reading, room);
+    let n = common_refusal(last, label, reading, room);
     if n != 0 {
         return n;
     }
-    let wrong = unclearable(hold_at(table, slot));
+    let wrong = unclearable(hold);
     if wrong != 0 {
         return wrong;
     }
@@ -208,9 +186,9 @@ pub fn clear_refusal(
 // Refusal 10.
 pub fn body_refusal(body: &[u8]) -> u8
     ensures { λ r. ⌜ r ≡ bodyRefusal (now (body .entry)) ⌝ }
-    ensures passed { λ r. ⌜ (r ≡ 0 → length (now (body .entry)) ≤ 512) ⌝ }
+    ensures passed { λ r. ⌜ (r ≡ 0 → length (now (body .entry)) ≤ bodyRoom) ⌝ }
 {
-    if 512 < body.len() {
+    if BODY_ROOM < body.len() {
         return 10;
     }
     if setup::offer_fits(body) {

@@ -1,2 +1,1 @@
 pub mod Reload
-pub mod Reached

@@ -1,18 +1,22 @@
 -- Reloading a table (document 02, R-1): "The reader refuses .. with 9 and gives no table."
 --   isForm                 octets that are the saved form of a table of so many slots that keeps the rules
+--   noTable                a refusal
 --   reloadIn, reloadOf     what reloading answers, for so many slots and for ours
--- The rules are in crate kept. Assumes nothing.
+-- The rules are in crate rules. Assumes nothing.
 use Prim.Native.Nat.{ℕ}
-use mathlib.Core.Bool.{Bool, cond, not, _&&_}
-use mathlib.Core.List.{List, []}
+use mathlib.Core.Bool.{Bool, cond, _&&_}
+use mathlib.Core.List.{List}
 use lib.Dec.{leb}
+use lib.ListN.{replicate}
 use Rattle.octets.specs.Octets.{equal}
 use Rattle.provisioning.specs.Provisioning.{allBelow, provision}
-use Rattle.effects.specs.Effect.{slotCount}
+use Rattle.channels.specs.Channels.{emptyPool}
+use Rattle.pairs.specs.Pairs.{noPairs}
+use Rattle.calls.specs.Calls.{noSlot}
+use Rattle.calls.specs.Timers.{largestReading}
+use Rattle.slots.specs.Slots.{slotCount, slotsOf}
 use Rattle.outcome.specs.declared.Started.{Started}
-use Rattle.refusals.specs.Refusals.{largestReading}
-use Rattle.kept.specs.Kept.{slotKept, doubtsKept}
-use Rattle.control.specs.Events.{startOf}
+use Rattle.rules.specs.Rules.{slotKept, doubtsKept}
 use Rattle.saved.specs.Form.{formOf}
 use Rattle.reading.specs.Reading.{rangeNumbers, pairNumbers, tableIn}
 
@@ -24,9 +28,12 @@ isForm count f =
     && (leb (tableIn count f .last) largestReading
     && (doubtsKept (tableIn count f) && (allBelow (slotKept (tableIn count f)) count && equal (formOf (tableIn count f)) f)))
 
--- "It refuses with 9 and gives no table.": as a refused start
+-- "with 9 and gives no table": what a refused start answers
+abbrev pub noTable : Started
+noTable = record { refusal = 9; table = record { slots = slotsOf (replicate slotCount noSlot); last = 0; doubts = noPairs; pool = emptyPool } }
+
 abbrev pub reloadIn : ℕ → List ℕ → Started
-reloadIn count f = cond (isForm count f) (record { refusal = 0; table = tableIn count f }) (startOf [] [])
+reloadIn count f = cond (isForm count f) (record { refusal = 0; table = tableIn count f }) noTable
 
 abbrev pub reloadOf : List ℕ → Started
 reloadOf f = reloadIn slotCount f

@@ -1,15 +1,17 @@
 // A table from its saved form. docs/FORMATS.md has the layout.
 //   reload     the table of a form, or refusal 9
-// It takes any octets: they are read with no question asked, the table that comes is held against the rules (`kept`), and its form is
+// It takes any octets: they are read with no question asked, the table that comes is held against the rules (`rules`), and its form is
 // written anew and must be the octets that came. So each table has one saved form. `reload` has no `requires`. Assumes nothing.
+use calls::LARGEST_READING;
+use channels::Pool;
 use outcome::Started;
+use pairs::Pairs;
+use slots::Slots;
 use table::Table;
 ghost use mathlib.Core.Path.{_≡_};
-ghost use mathlib.Core.List.{[]};
 ghost use Rattle.octets.specs.Octets.{equal};
-ghost use Rattle.control.specs.Events.{startOf};
 ghost use Rattle.saved.specs.Form.{formOf};
-ghost use Rattle.reload.specs.Reload.{reloadOf};
+ghost use Rattle.reload.specs.Reload.{noTable, reloadOf};
 
 // If the octets are the table's own form.
 fn is_own(table: Table, form: &[u8]) -> bool
@@ -20,10 +22,23 @@ fn is_own(table: Table, form: &[u8]) -> bool
     octets::same(&own[..n], form)
 }
 
+// Refusal 9, with the table of a refused start.
 fn refuse() -> Started
-    ensures { λ r. ⌜ r ≡ startOf [] [] ⌝ }
+    ensures { λ r. ⌜ r ≡ noTable ⌝ }
 {
-    control::start(&[], &[])
+    let slots = Slots::fresh();
+    let doubts = Pairs::none();
+    let pool = Pool::empty();
+    let table = Table {
+        slots: slots,
+        last: 0,
+        doubts: doubts,
+        pool: pool,
+    };
+    Started {
+        refusal: 9,
+        table: table,
+    }
 }
 
 // The table of a form, or refusal 9.
@@ -36,13 +51,13 @@ pub fn reload(form: &[u8]) -> Started
     }
     let pool = lists.pool;
     let table = reading::table_of(form, pool);
-    if 4000000000000 < table.last {
+    if LARGEST_READING < table.last {
         return refuse();
     }
-    if !kept::are_doubts_kept(table) {
+    if !rules::are_doubts_kept(table) {
         return refuse();
     }
-    if !kept::are_slots_kept(table) {
+    if !rules::are_slots_kept(table) {
         return refuse();
     }
     if !is_own(table, form) {

@@ -5,6 +5,8 @@
 --   kindOf, elementsOf, meant  a reply's type, its elements, and the message that it is
 --   replyOctets                its octets: none where there is no reply
 --   setupOctets                SETUP: the Connection identifier and then the body as it came
+--   replyRoom, bodyRoom        no message that we send is longer, and no offer's body
+--   sentOctets                 what an event sends: a reply, or SETUP
 -- Assumes nothing.
 use Prim.Native.Nat.{ℕ, _+_, _%_}
 use mathlib.Core.Bool.{Bool, true, false, cond}
@@ -19,6 +21,8 @@ use Rattle.replies.specs.declared.Diagnostic.the-variants as diagnostic
 use Rattle.replies.specs.declared.Cause.{Cause}
 use Rattle.replies.specs.declared.Reply.{Reply}
 use Rattle.replies.specs.declared.Reply.the-variants as reply
+use Rattle.replies.specs.declared.Outgoing.{Outgoing}
+use Rattle.replies.specs.declared.Outgoing.the-variants as outgoing
 
 -- the octets of a field that a writer made
 abbrev pub inField : Field → List ℕ
@@ -108,3 +112,15 @@ replyOctets flag r a = cond (isSilent a) [] (octets (meant flag r a))
 -- "SETUP with 5A and then the body"; it is about a network-originated call, so its flag is 0
 abbrev pub setupOctets : ℕ → ℕ → ℕ → List ℕ → List ℕ
 setupOctets r p v elements = header false r 0x05 (9 + length elements) ++ elementOctets (connection p v) ++ elements
+
+-- "1 reply room under 1,024 octets", "a body of elements of at most 512 octets"
+abbrev pub replyRoom : ℕ
+replyRoom = 1024
+
+abbrev pub bodyRoom : ℕ
+bodyRoom = 512
+
+-- what an event sends; an offer's body is sent with SETUP alone
+abbrev pub sentOctets : Bool → ℕ → Outgoing → List ℕ → List ℕ
+sentOctets flag r (outgoing.Reply a) body = replyOctets flag r a
+sentOctets flag r (outgoing.Setup p v) body = setupOctets r p v body

@@ -1,8 +1,10 @@
 // Every message that we send, written at the front of a lent room.
-//   Mandatory, Diagnostic, Cause, Reply     what a message says, as a value
-//   write                                   a reply: answers its length, 0 where there is none
-//   write_setup                             SETUP with a Connection identifier and an offer's body
-// Both ask for a room of 1,024 octets; octets behind the message are unchanged. Assumes nothing.
+//   REPLY_ROOM, BODY_ROOM                   no message that we send is longer, and no offer's body
+//   Mandatory, Diagnostic, Cause, Reply     what a reply says, as a value
+//   Outgoing                                what an event sends: a reply, or SETUP
+//   send                                    what is sent: answers its length, 0 where there is nothing
+// `send` asks for a room of 1,024 octets, and for an offer's body of at most 512; octets behind the message are unchanged.
+// Assumes nothing.
 ghost use mathlib.Core.Path.{_≡_};
 ghost use mathlib.Core.Bool.{false, cond};
 ghost use Prim.Native.Nat.{_+_, _≤_, _<_};
@@ -10,7 +12,11 @@ ghost use mathlib.Core.List.{_∷_, [], _++_};
 ghost use lib.ListN.{length};
 ghost use Rattle.octets.specs.Octets.{high, low, Wrote, Fills, front};
 ghost use Rattle.replies.specs.Message.{header, elementOctets, message, octets};
-ghost use Rattle.replies.specs.Reply.{inField, optional, identifiers, diagnosticOctets, cause, short, callState, connection, restart, replyOctets, setupOctets};
+ghost use Rattle.replies.specs.Reply.{inField, optional, identifiers, diagnosticOctets, cause, short, callState, connection, restart, replyOctets, setupOctets, replyRoom, bodyRoom, sentOctets};
+
+pub const REPLY_ROOM: usize = 1024;
+
+pub const BODY_ROOM: usize = 512;
 
 // Some of the four elements that SETUP must have: 59, 5C, 5E and 70.
 pub struct Mandatory {
@@ -52,6 +58,12 @@ pub enum Reply {
     RestartAcknowledgeAll,
     // VPCI and VCI.
     RestartAcknowledge(u16, u16),
+}
+
+// What an event sends: a reply, or SETUP with the Connection identifier of a VPCI and a VCI and then an offer's body.
+pub enum Outgoing {
+    Reply(Reply),
+    Setup(u16, u16),
 }
 
 // The octets of a diagnostic field, at most four, at the front of an array.
@@ -252,7 +264,7 @@ fn write_restart_pair(room: &mut [u8], flag: bool, reference: u32, vpci: u16, vc
 }
 
 // Writes a reply with this flag and call reference, and answers its length.
-pub fn write(room: &mut [u8], flag: bool, reference: u32, reply: Reply) -> usize
+fn write(room: &mut [u8], flag: bool, reference: u32, reply: Reply) -> usize
     requires { ⌜ 1024 ≤ length (now room) ⌝ }
     ensures { λ r. ⌜ (r ≡ length (replyOctets flag reference reply))
         × (now (room .exit) ≡ front (replyOctets flag reference reply) (now (room .entry))) ⌝ }
@@ -285,7 +297,7 @@ pub fn write(room: &mut [u8], flag: bool, reference: u32, reply: Reply) -> usize
 }
 
 // Writes SETUP for a network-originated call, and answers its length.
-pub fn write_setup(room: &mut [u8], reference: u32, vpci: u16, vci: u16, body: &[u8]) -> usize
+fn write_setup(room: &mut [u8], reference: u32, vpci: u16, vci: u16, body: &[u8]) -> usize
     requires { ⌜ (1024 ≤ length (now room)) × (length (now body) ≤ 512) ⌝ }
     ensures { λ r. ⌜ (r ≡ length (setupOctets reference vpci vci (now (body .entry))))
         × (now (room .exit) ≡ front (setupOctets reference vpci vci (now (body .entry))) (now (room .entry))) ⌝ }
@@ -293,4 +305,16 @@ pub fn write_setup(room: &mut [u8], reference: u32, vpci: u16, vci: u16, body: &
     let first = put_header(room, false, reference, 0x05, 9 + body.len());
     let second = put_connection(room, first, vpci, vci);
     octets::put(room, second, body)
+}
+
+// Writes what an event sends, with this flag and call reference, and answers its length; SETUP alone has a body.
+pub fn send(room: &mut [u8], flag: bool, reference: u32, outgoing: Outgoing, body: &[u8]) -> usize
+    requires { ⌜ (replyRoom ≤ length (now room)) × (length (now body) ≤ bodyRoom) ⌝ }
+    ensures { λ r. ⌜ (r ≡ length (sentOctets flag reference outgoing (now (body .entry))))
+        × (now (room .exit) ≡ front (sentOctets flag reference outgoing (now (body .entry))) (now (room .entry))) ⌝ }
+{
+    match outgoing {
+        Outgoing::Reply(reply) => write(room, flag, reference, reply),
+        Outgoing::Setup(vpci, vci) => write_setup(room, reference, vpci, vci, body),
+    }
 }

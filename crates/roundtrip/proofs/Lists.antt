@@ -21,7 +21,7 @@ use Rattle.fields.specs.Fields.{two, rangeOctets, entryOctets}
 use Rattle.saved.specs.Form.{joined}
 
 -- a list numbered from one further
-pub numbered-shift : {A : Type 0} (f g : ℕ → A) → ((k : ℕ) → f (k + 1) ≡ g k) → (k n : ℕ) → numbered f (k + 1) n ≡ numbered g k n
+numbered-shift : {A : Type 0} (f g : ℕ → A) → ((k : ℕ) → f (k + 1) ≡ g k) → (k n : ℕ) → numbered f (k + 1) n ≡ numbered g k n
 numbered-shift f g h k zero = refl
 numbered-shift f g h k (suc n) = rw (h k, numbered-shift f g h (k + 1) n)
 
@@ -69,7 +69,7 @@ module _ (a b : ℕ) (s : List ℕ) where
       (λ y. lt-ltb (k + 1) (length (a ∷ b ∷ s) / 2) (omega (arith, ltb-true k (length s / 2) y)) ∙ sym y)
       (λ n. le-ltb (k + 1) (length (a ∷ b ∷ s) / 2) (omega (arith, ltb-false k (length s / 2) n)) ∙ sym n)
 
-  pub entry-shift : (k : ℕ) → entryAt (a ∷ b ∷ s) (k + 1) ≡ entryAt s k
+  entry-shift : (k : ℕ) → entryAt (a ∷ b ∷ s) (k + 1) ≡ entryAt s k
   entry-shift k =
       let p : (k + 1) * 2 ≡ suc (suc (k * 2)) = omega arith in
       let q : (k + 1) * 2 + 1 ≡ suc (suc (k * 2 + 1)) = omega arith in

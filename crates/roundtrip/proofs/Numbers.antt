@@ -1,5 +1,5 @@
--- Numbers of eight octets, read back.
---   eight-back
+-- Numbers of four and of eight octets, read back.
+--   four-back, eight-back
 -- Assumes nothing.
 use Prim.Native.Nat.{ℕ, _+_, _*_, _/_, _%_, _<_}
 use mathlib.Core.Path.{_≡_}
@@ -8,6 +8,9 @@ use Rattle.octets.specs.Octets.{high, low, number}
 
 two-low : (n : ℕ) → number (high n) (low n) ≡ n % 65536
 two-low n = omega arith
+
+pub four-back : (n : ℕ) → n < 4294967296 → number (high (n / 65536)) (low (n / 65536)) * 65536 + number (high n) (low n) ≡ n
+four-back n h = rw (two-low (n / 65536), two-low n) (omega arith)
 
 -- the quotients, one after the other
 second : (n : ℕ) → n / 4294967296 ≡ n / 65536 / 65536

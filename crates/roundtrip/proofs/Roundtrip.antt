@@ -7,46 +7,51 @@
 use Prim.Native.Nat.{ℕ, suc, _≤_, _<_}
 use mathlib.Core.Path.{_≡_, refl, sym, ap, _∙_}
 use mathlib.Core.Logic.{_⊎_, inl, inr}
-use mathlib.Core.Bool.{Bool, true, false, cond, _&&_}
+use mathlib.Core.Bool.{Bool, true, false}
 use mathlib.Core.List.{List, [], _∷_}
 use native.Mathlib.Omega.{arith}
-use lib.Dec.{eqb, leb}
+use lib.Dec.{eqb}
 use lib.ListN.{length, getD}
 use borrow.Author.Tests.{eqb-true, eq-eqb, le-leb, lt-ltb, le-ltb}
-use Rattle.roundtrip.proofs.Doubtful.{sound-doubtful, sound-doubts-kept}
 use Rattle.octets.specs.Octets.{equal}
 use Rattle.octets.proofs.Equal.{same-equal}
 use Rattle.traffic.specs.Traffic.{member}
+use Rattle.replies.specs.Reply.{replyRoom}
+use Rattle.channels.specs.Some.{someOf}
 use Rattle.channels.proofs.Cases.{by-test, clash}
 use Rattle.provisioning.specs.Provisioning.{allBelow, provision}
-use Rattle.calls.specs.declared.Phase.{Phase}
+use Rattle.calls.specs.declared.State.{State}
 use Rattle.calls.specs.declared.Hold.{Hold}
 use Rattle.calls.specs.declared.Hold.the-variants.{Empty, Live}
 use Rattle.calls.specs.declared.Slot.{Slot}
-use Rattle.calls.specs.Calls.{noSlot}
-use Rattle.effects.specs.Effect.{slotCount}
+use Rattle.calls.specs.Calls.{noSlot, holdsPair}
+use Rattle.calls.specs.Timers.{largestReading}
+use Rattle.slots.specs.Slots.{slotCount}
 use Rattle.table.specs.declared.Table.{Table}
 use Rattle.outcome.specs.declared.Started.{Started}
-use Rattle.refusals.specs.Refusals.{largestReading, hostCauses}
+use Rattle.refusals.specs.Refusals.{hostCauses}
 use Rattle.control.specs.Events.{startOf}
 use Rattle.control.specs.Happens.{Event, happens, after}
 use Rattle.saved.specs.Form.{formOf}
 use Rattle.reading.specs.Reading.{rangeNumbers, pairNumbers, tableIn}
-use Rattle.kept.specs.Kept.{slotKept, doubtsKept}
+use Rattle.rules.specs.Rules.{slotKept, doubtsKept}
 use Rattle.reload.specs.Reload.{isForm, reloadIn, reloadOf}
-use Rattle.reload.specs.Reached.{Beginning, start, reload, begun, Reached}
-use Rattle.safety.specs.Tables.{slotAt}
-use Rattle.safety.specs.FixedAnswers.{labelOf, readingOf, roomOf}
-use Rattle.safety.specs.Sound.{PhaseSound, in-N3, in-N6, in-N9, in-N10, by-host, by-timer, Sound, ReferencesFit}
+use Rattle.reload.proofs.Answered.{all-pass}
+use Rattle.reached.specs.Reached.{Beginning, start, reload, begun, Reached}
+use Rattle.views.specs.Tables.{slotAt}
+use Rattle.views.specs.Effects.{labelOf, readingOf, roomOf}
+use Rattle.safety.specs.Sound.{StateSound, in-N3, in-N6, in-N9, in-N10, by-host, by-timer, Sound, ReferencesFit}
 use Rattle.safety.proofs.FixedAnswers.{number}
 use Rattle.safety.proofs.FixedStart.{start-accepts}
+use Rattle.safety.proofs.Tables.{some-held}
 use Rattle.safety.proofs.Slips.{pool-stays}
 use Rattle.safety.proofs.Sound.{reached-sound}
 use Rattle.safety.proofs.References.{form-fits, reached-fits}
 use Rattle.safety.proofs.Reloaded.{reload-in, reload-sound}
 use Rattle.roundtrip.specs.Roundtrip.{Provisioned, Savable, taken, SavedAndReloaded}
-use Rattle.roundtrip.proofs.Calls.{PhaseFits, HoldFits, AllFit}
-use Rattle.roundtrip.proofs.Tables.{lists-back, table-back}
+use Rattle.roundtrip.proofs.Calls.{StateFits, HoldFits, AllFit}
+use Rattle.roundtrip.proofs.Tables.{Doubtful, lists-back, table-back}
+use Rattle.roundtrip.proofs.Doubtful.{doubts-fit, doubts-kept}
 use Rattle.roundtrip.proofs.Kept.{sound-kept}
 
 -- Room in the fields.
@@ -56,24 +61,24 @@ host-not-102 : (cause : ℕ) → member cause hostCauses ≡ true → eqb cause 
 host-not-102 cause h =
     by-test (eqb cause 102) (λ y. let host : member 102 hostCauses ≡ true = rw (eqb-true cause 102 y) at h in clash host refl) (λ n. n)
 
-phase-fits : (last : ℕ) (network : Bool) (p : Phase) → last ≤ 4000000000000 → PhaseSound last network p → PhaseFits p
-phase-fits last network p small in-N3 = tt
-phase-fits last network p small (in-N6 d h) = omega arith
-phase-fits last network p small (in-N9 d h) = omega arith
-phase-fits last network p small (in-N10 n) = tt
-phase-fits last network p small (by-host n k h cause x) = (omega arith, x ∙ sym (host-not-102 (k .cause) cause))
-phase-fits last network p small (by-timer k h cause x) = (omega arith, x ∙ sym (eq-eqb (k .cause) 102 cause))
+state-fits : (last : ℕ) (network : Bool) (q : State) → last ≤ largestReading → StateSound last network q → StateFits q
+state-fits last network q small in-N3 = tt
+state-fits last network q small (in-N6 d h) = omega arith
+state-fits last network q small (in-N9 d h) = omega arith
+state-fits last network q small (in-N10 n) = tt
+state-fits last network q small (by-host n k d h cause x) = (omega arith, x ∙ sym (host-not-102 (k .cause) cause))
+state-fits last network q small (by-timer k d h cause x) = (omega arith, x ∙ sym (eq-eqb (k .cause) 102 cause))
 
 module _ (t : Table) (s : Sound t) (f : ReferencesFit t) where
   hold-fits : (i : ℕ) (x : Hold) → slotAt t i .hold ≡ x → HoldFits x
   hold-fits i Empty h = tt
-  hold-fits i (Live c) h =
-      let k = s .calls-sound i c h in
+  hold-fits i (Live c q) h =
+      let k = s .calls-sound i c q h in
       record {
         vpci = omega (arith, k .vpci-high);
         vci = omega (arith, k .vci-high);
-        reference = f i c h;
-        phase = phase-fits (t .last) (c .network) (c .phase) (s .last-high) (k .phase-sound);
+        reference = f i c q h;
+        state = state-fits (t .last) (c .network) q (s .last-high) (k .state-sound);
       }
 
 all-fit : (ss : List Slot) → ((i : ℕ) → HoldFits (getD ss i noSlot .hold)) → AllFit ss
@@ -83,26 +88,24 @@ all-fit (s ∷ ss) h = (h 0, all-fit ss (λ i. h (suc i)))
 pub sound-fits : (t : Table) → Sound t → ReferencesFit t → AllFit (t .slots .all)
 sound-fits t s f = all-fit (t .slots .all) (λ i. hold-fits t s f i (slotAt t i .hold) refl)
 
+-- The pairs in doubt of a sound table.
+
+sound-doubtful : (t : Table) → Sound t → Doubtful (t .doubts)
+sound-doubtful t s = doubts-fit (t .doubts) (s .doubts-tidy) (λ p v h. let n = s .numbers p v (s .doubt-permitted p v h) in omega (arith, n .0))
+
+sound-doubts-kept : (t : Table) → Sound t → doubtsKept t ≡ true
+sound-doubts-kept t s = doubts-kept t (s .doubts-tidy) (λ p v h. record {
+  allowed = s .doubt-permitted p v h;
+  unheld = by-test (someOf (holdsPair p v) (t .slots .all)) (λ y. absurd (s .doubt-not-held p v h (some-held t p v y))) (λ n. n);
+})
+
 -- The form of a savable table is taken.
 
--- the answer, by the table that the form is read as
-abbrev answer : ℕ → List ℕ → Table → Started
-answer count f t =
-    cond
-    (provision (rangeNumbers f) (pairNumbers f) .accepted
-    && (leb (t .last) largestReading && (doubtsKept t && (allBelow (slotKept t) count && equal (formOf t) f))))
-    (taken t)
-    (startOf [] [])
-
-all-pass : {A : Type 0} {a b c d e : Bool} (x y : A) → a ≡ true → b ≡ true → c ≡ true → d ≡ true → e ≡ true → cond (a && (b && (c && (d && e)))) x y ≡ x
-all-pass x y a b c d e = rw (a, b, c, d, e)
-
 form-taken : (count : ℕ) (f : List ℕ) (t : Table) → tableIn count f ≡ t → formOf t ≡ f → provision (rangeNumbers f) (pairNumbers f) .accepted ≡ true
-    → t .last ≤ 4000000000000 → doubtsKept t ≡ true → allBelow (slotKept t) count ≡ true → reloadIn count f ≡ taken t
+    → t .last ≤ largestReading → doubtsKept t ≡ true → allBelow (slotKept t) count ≡ true → reloadIn count f ≡ taken t
 form-taken count f t back same accepted small doubts kept =
-    let as-table : reloadIn count f ≡ answer count f t = ap (answer count f) back in
     let own : equal (formOf t) f ≡ true = ap (equal (formOf t)) (sym same) ∙ same-equal (formOf t) in
-    as-table ∙ all-pass (taken t) (startOf [] []) accepted (le-leb (t .last) largestReading small) doubts kept own
+    sym (all-pass count f t (sym back) accepted (le-leb (t .last) largestReading small) doubts kept own)
 
 taken-in : (count : ℕ) (t : Table) → Savable t → length (t .slots .all) ≡ count → reloadIn count (formOf t) ≡ taken t
 taken-in count t v size =
@@ -163,15 +166,15 @@ takes-only f o e = record {
 refuses-with-9 : (count : ℕ) (f : List ℕ) → (reloadIn count f .refusal ≡ 0) ⊎ ((reloadIn count f .refusal ≡ 9) × (reloadIn count f ≡ startOf [] []))
 refuses-with-9 count f = by-test (isForm count f) (λ y. inl (rw y)) (λ n. inr (rw n, rw n))
 
-older-gets-4 : (t : Table) (e : Event) → Savable t → 1024 ≤ roomOf e → labelOf e ≡ 1 → readingOf e < t .last
+older-gets-4 : (t : Table) (e : Event) → Savable t → replyRoom ≤ roomOf e → labelOf e ≡ 1 → readingOf e < t .last
     → happens (reloadOf (formOf t) .table) e .answer .refusal ≡ 4
 older-gets-4 t e v room label early =
     ap (λ (u : Started). happens (u .table) e .answer .refusal) (taken-each t v)
     ∙ number t e
     ∙ rw (
-      le-ltb (roomOf e) 1024 room,
+      le-ltb (roomOf e) replyRoom room,
       eq-eqb (labelOf e) 1 label,
-      le-ltb 4000000000000 (readingOf e) (omega (arith, v .sound .last-high)),
+      le-ltb largestReading (readingOf e) (omega (arith, v .sound .last-high)),
       lt-ltb (readingOf e) (t .last) early,
     )
 

@@ -10,6 +10,7 @@ use mathlib.Core.Logic.{_⊎_}
 use mathlib.Core.Bool.{true}
 use mathlib.Core.List.{List, []}
 use lib.ListN.{getD}
+use Rattle.replies.specs.Reply.{replyRoom}
 use Rattle.provisioning.specs.Provisioning.{provision}
 use Rattle.table.specs.declared.Table.{Table}
 use Rattle.outcome.specs.declared.Started.{Started}
@@ -17,8 +18,8 @@ use Rattle.control.specs.Events.{startOf}
 use Rattle.control.specs.Happens.{Event, happens}
 use Rattle.saved.specs.Form.{formOf}
 use Rattle.reload.specs.Reload.{reloadOf}
-use Rattle.reload.specs.Reached.{Reached}
-use Rattle.safety.specs.FixedAnswers.{labelOf, readingOf, roomOf}
+use Rattle.reached.specs.Reached.{Reached}
+use Rattle.views.specs.Effects.{labelOf, readingOf, roomOf}
 use Rattle.safety.specs.Sound.{Sound, CarriedOctets, ReferencesFit}
 
 -- "lists that start" does not refuse
@@ -52,5 +53,5 @@ pub record SavedAndReloaded : Type 0 where
   -- "It refuses with 9 and gives no table."
   pub refuses-with-9 : (f : List ℕ) → (reloadOf f .refusal ≡ 0) ⊎ ((reloadOf f .refusal ≡ 9) × (reloadOf f ≡ startOf [] []))
   -- "a reading older than the saved one gets 4"
-  pub older-gets-4 : (t : Table) (e : Event) → Savable t → 1024 ≤ roomOf e → labelOf e ≡ 1 → readingOf e < t .last
+  pub older-gets-4 : (t : Table) (e : Event) → Savable t → replyRoom ≤ roomOf e → labelOf e ≡ 1 → readingOf e < t .last
       → happens (reloadOf (formOf t) .table) e .answer .refusal ≡ 4

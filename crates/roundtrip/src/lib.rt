@@ -6,6 +6,6 @@
 //   proofs/Calls.antt          the calls
 //   proofs/Tables.antt         the whole table
 //   proofs/Doubtful.antt       the pairs in doubt
-//   proofs/Kept.antt           a sound table keeps the reader's rules
+//   proofs/Kept.antt           a sound table keeps the rules
 //   proofs/Roundtrip.antt      the statement, proved
 // Assumes nothing.

@@ -1,18 +1,13 @@
--- Cases of a choice, of a side, and of two tests.
---   by-cond            either value of a choice
+-- Cases of a side, of two tests, and of a place.
 --   beq-same           a side is itself
 --   either, neither    one of two tests passes, and none does
 --   one-place          a place that is found is one place
 -- Assumes nothing.
 use Prim.Native.Nat.{ℕ}
 use mathlib.Core.Path.{_≡_, refl}
-use mathlib.Core.Bool.{Bool, true, false, cond, _||_, Bool·beq}
+use mathlib.Core.Bool.{Bool, true, false, _||_, Bool·beq}
 use Rattle.channels.proofs.Cases.{clash}
 use Rattle.first.specs.declared.Found.the-variants.{At}
-
-pub by-cond : {A : Type 0} (P : A → Type 0) (b : Bool) (x y : A) → P x → P y → P (cond b x y)
-by-cond P true x y a b = a
-by-cond P false x y a b = b
 
 pub beq-same : (b : Bool) → Bool·beq b b ≡ true
 beq-same true = refl

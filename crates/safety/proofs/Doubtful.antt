@@ -1,258 +1,155 @@
 -- What becomes of the doubts (document 02, R-2).
---   outcome-doubted         of every event: they stay, some end, or the pair of a call that is gone begins to be in doubt
---   doubts-sound            afterwards they are as they must be
+--   Doubted             of a change: they stay, those that are named end, or the pair of a call that goes begins to be in doubt
+--   does-doubted        of what every event decides
+--   doubts-sound        afterwards they are as they must be
 -- Assumes nothing.
 use Prim.Native.Nat.{ℕ}
 use mathlib.Core.Path.{_≡_, refl, sym, ap, _∙_}
 use mathlib.Core.Logic.{_≢_}
-use mathlib.Core.Bool.{Bool, true, false, not, _&&_, _||_}
-use mathlib.Core.List.{List}
-use lib.Dec.{eqb, ltb}
-use lib.ListN.{length, getD}
+use mathlib.Core.Bool.{Bool, true, false, not, _&&_}
+use native.Mathlib.Omega.{arith}
+use lib.Dec.{eqb}
+use lib.ListN.{getD, set}
 use lib.Seq.{getD-set-same, getD-set-other}
-use borrow.Author.Tests.{eqb-true, not-true}
-use Rattle.channels.specs.Channels.{isEntry, among, permitted, permanent, knownVpci}
-use Rattle.channels.specs.declared.Channel.{Channel}
-use Rattle.channels.specs.declared.Channel.the-variants.{None, Pair}
-use Rattle.channels.specs.declared.Entry.{Entry}
+use borrow.Author.Tests.{eqb-true}
+use Rattle.channels.specs.declared.Named.{Named}
+use Rattle.channels.specs.Channels.{permitted}
 use Rattle.channels.proofs.Cases.{by-test, clash, both}
-use Rattle.channels.proofs.Lowest as lowest
-use Rattle.doubts.specs.Doubts.{doubtRoom, doubtsOf, pairEntry, sunk, ended, isFull, doubtsAfter, tidy}
-use Rattle.doubts.specs.declared.Doubting.{Doubting}
-use Rattle.doubts.specs.declared.Doubting.the-variants.{Keep, Begin, End, EndAll}
-use Rattle.doubts.proofs.InDoubt.{sunk-among, ended-among, none-among, anew, doubts-after-tidy, doubts-after-length}
-use Rattle.calls.specs.declared.Phase.{Phase}
-use Rattle.calls.specs.declared.Phase.the-variants.{N3, N6, N9, N10, N12}
+use Rattle.pairs.specs.Pairs.{inPairs, Tidy}
+use Rattle.pairs.proofs.Laws.{with-in, with-tidy, names, unless-in, unless-tidy}
+use Rattle.calls.specs.declared.State.{State}
 use Rattle.calls.specs.declared.Call.{Call}
-use Rattle.calls.specs.declared.Hold.{Hold}
-use Rattle.calls.specs.declared.Hold.the-variants.{Empty, Live}
 use Rattle.calls.specs.declared.Slot.{Slot}
-use Rattle.calls.specs.Calls.{noSlot, isEmpty, isCall}
-use Rattle.first.specs.declared.Found.{Found}
-use Rattle.first.specs.declared.Found.the-variants.{Nothing, At}
-use Rattle.first.specs.First.{place}
-use Rattle.slots.specs.Slots.{heldOf}
-use Rattle.slots.specs.Timers.{nextDue}
-use Rattle.header.specs.declared.Header.{Header}
-use Rattle.header.specs.declared.Head.{Head}
-use Rattle.header.specs.declared.Head.the-variants.{Ignored, Is}
-use Rattle.header.specs.Header.{headOf}
-use Rattle.elements.specs.declared.ConnectionRead.{ConnectionRead}
-use Rattle.elements.specs.declared.ConnectionRead.the-variants as connectionRead
-use Rattle.elements.specs.declared.RestartRead.{RestartRead}
-use Rattle.elements.specs.declared.RestartRead.the-variants as restartRead
-use Rattle.elements.specs.Values.{connectionIn, restartIn}
-use Rattle.setup.specs.declared.Admission.{Admission}
-use Rattle.setup.specs.declared.Admission.the-variants.{Admitted, Refused}
-use Rattle.setup.specs.Setup.{admission}
-use Rattle.verdicts.specs.declared.Fate.the-variants as fate
-use Rattle.verdicts.specs.Expiry.{expire, lastT308}
+use Rattle.calls.specs.Calls.{noSlot}
+use Rattle.verdicts.specs.declared.Verdict.{Verdict}
+use Rattle.effects.specs.declared.Change as declared
+use Rattle.effects.specs.declared.Change.the-variants.{Keep, Put, Doubt, Restart}
 use Rattle.effects.specs.declared.Effect.{Effect}
-use Rattle.effects.specs.Restart.{pairRestart, restartEffect}
+use Rattle.effects.specs.Change.{slotsAfter}
+use Rattle.effects.specs.Effect.{fated}
+use Rattle.search.proofs.Free.{free-permitted}
 use Rattle.table.specs.declared.Table.{Table}
-use Rattle.table.specs.Effects.{freePair, onPair, admitted, setupEffect, onNoCall, onHold, addressed, globalEffect, noRoom, fireHold, fired, tickEffect}
-use Rattle.refusals.specs.Refusals.{holdAt}
-use Rattle.commands.specs.Commands.{connected, cleared, offeredOn}
-use Rattle.control.specs.Events.{heardBy, offered}
-use Rattle.control.specs.Happens.{Event, message, tick, connect, clear, offer}
-use Rattle.safety.specs.Tables.{slotAt, HasCall, Holds, InDoubt}
+use Rattle.table.specs.Effects.{tableAfter, noRoom}
+use Rattle.control.specs.Happens.{Event}
+use Rattle.views.specs.Tables.{HasCall, Holds, InDoubt}
+use Rattle.views.specs.Effects.{readingOf}
+use Rattle.views.proofs.Verdicts as verdict
+use Rattle.views.proofs.View as view
 use Rattle.safety.specs.Sound.{Sound}
-use Rattle.safety.proofs.Cases.{by-cond, either}
+use Rattle.safety.proofs.Cases.{either}
 use Rattle.safety.proofs.Tables.{not-live, live-within}
-use Rattle.safety.proofs.FixedAnswers.{outcomeOf}
-use Rattle.safety.proofs.Changes.{Comes, old, new, Change, Doubted, keeps, ends, ends-all, begins}
+use Rattle.safety.proofs.Changes.{Comes, old, new, Change}
 
--- a second T308 that expires with room for a doubt ends the call
-last-gone : (full : Bool) (phase : Phase) (reading : ℕ) → lastT308 phase ≡ true → full ≡ false → expire full phase reading .fate ≡ fate.Gone
-last-gone full N3 reading e r = clash refl (sym e)
-last-gone full (N6 d) reading e r = clash refl (sym e)
-last-gone full (N9 d) reading e r = clash refl (sym e)
-last-gone full N10 reading e r = clash refl (sym e)
-last-gone full (N12 k) reading e r = rw (e, r)
+pub data Doubted (t : Table) : declared.Change → Type 0 where
+  keeps : Doubted t Keep
+  puts : (i : ℕ) (s : Slot) (notice : ℕ) → Doubted t (Put i s notice)
+  ends : (which : Named) → Doubted t (Restart which)
+  begins : (i : ℕ) (c : Call) (q : State) → HasCall t i c q → noRoom t ≡ false → Doubted t (Doubt i (c .vpci) (c .vci))
 
-module _ (t : Table) where
-  abbrev DoubtedBy : Effect → Type 0
-  DoubtedBy x = Doubted t (x .slots .all) (x .doubt)
+-- a verdict on the live call of slot i
+verdict-doubted : (t : Table) (reading : ℕ) (full : Bool) → (full ≡ false → noRoom t ≡ false) → (i : ℕ) (c : Call) (q : State) (v : Verdict) → HasCall t i c q
+    → verdict.Judged reading full q v → Doubted t (fated i c (v .fate))
+verdict-doubted t reading full room i c q v h (verdict.stays k a s) = keeps
+verdict-doubted t reading full room i c q v h (verdict.proceeds d g) = puts i _ _
+verdict-doubted t reading full room i c q v h (verdict.connects a) = puts i _ _
+verdict-doubted t reading full room i c q v h (verdict.releases m) = puts i _ _
+verdict-doubted t reading full room i c q v h verdict.ends = puts i _ _
+verdict-doubted t reading full room i c q v h (verdict.times-out d g) = puts i _ _
+verdict-doubted t reading full room i c q v h (verdict.sends-again k d g first) = puts i _ _
+verdict-doubted t reading full room i c q v h (verdict.waits k d g second none) = puts i _ _
+verdict-doubted t reading full room i c q v h (verdict.loses k d g second some) = begins i c q h (room some)
 
-  pair-restart-doubted : (flag : Bool) (r : ConnectionRead) → DoubtedBy (pairRestart (t .slots) (t .pool) flag r)
-  pair-restart-doubted flag connectionRead.Absent = keeps
-  pair-restart-doubted flag connectionRead.Unreadable = keeps
-  pair-restart-doubted flag (connectionRead.Pair p v) =
-      by-cond DoubtedBy (knownVpci (t .pool) p) _ _ (by-cond DoubtedBy (ltb v 32 || permanent (t .pool) p v) _ _ keeps (ends p v)) keeps
+pub does-doubted : (t : Table) (e : Event) (x : Effect) → view.Does t e x → Doubted t (x .change)
+does-doubted t e x view.nothing = keeps
+does-doubted t e x (view.no-call m h is) = keeps
+does-doubted t e x (view.global m h is) = keeps
+does-doubted t e x (view.refuses m h c is a) = keeps
+does-doubted t e x (view.no-slot m h is a f) = keeps
+does-doubted t e x (view.no-free m h i is a f g) = keeps
+does-doubted t e x (view.admits m h i p v is a f g) = puts i _ _
+does-doubted t e x (view.offers i p v is f g) = puts i _ _
+does-doubted t e x (view.judges m h i c q is f g) =
+    verdict-doubted t (readingOf e) true (λ none. clash refl none) i c q _ g (verdict.judged (readingOf e) true m h q)
+does-doubted t e x (view.fires i c q is f g) = verdict-doubted t (readingOf e) (noRoom t) (λ some. some) i c q _ g (verdict.expired (readingOf e) (noRoom t) q)
+does-doubted t e x (view.connects i c q is g s) = puts i _ _
+does-doubted t e x (view.clears i cause c q is g host) = puts i _ _
+does-doubted t e x (view.declines m h n d is a) = keeps
+does-doubted t e x (view.restarts m h which a is n) = ends which
 
-  restart-doubted : (flag : Bool) (r : RestartRead) (c : ConnectionRead) → DoubtedBy (restartEffect (t .slots) (t .pool) flag r c)
-  restart-doubted flag restartRead.Absent c = keeps
-  restart-doubted flag restartRead.Unreadable c = keeps
-  restart-doubted flag (restartRead.Class k) c = by-cond DoubtedBy (eqb k 0x82) _ _ ends-all (pair-restart-doubted flag c)
+-- the doubts of a table are as they must be
+pub record DoubtsSound (t : Table) : Type 0 where
+  pub in-order : Tidy (t .doubts)
+  pub permits : (p v : ℕ) → InDoubt t p v → permitted (t .pool) p v ≡ true
+  pub not-held : (p v : ℕ) → InDoubt t p v → Holds t p v → ⊥
 
-  global-doubted : (m : List ℕ) (h : Header) → DoubtedBy (globalEffect t m h)
-  global-doubted m h =
-      by-cond DoubtedBy (eqb (h .kind) 0x46 && not (h .flag)) _ _
-      (by-cond DoubtedBy (h .whole) _ _ (restart-doubted true (restartIn m 9) (connectionIn m 9)) keeps)
-      keeps
+module _ (t : Table) (e : Event) (s : Sound t) where
+  module _ (x : declared.Change) (change : Change t e (slotsAfter x (t .slots) .all)) where
+    abbrev u : Table
+    u = tableAfter t (readingOf e) x
 
-  pair-doubted : (r i : ℕ) (c : Channel) → DoubtedBy (onPair t r i c)
-  pair-doubted r i None = keeps
-  pair-doubted r i (Pair p v) = keeps
+    -- a pair in doubt before the event is held by no call after it
+    still-not-held : (p v : ℕ) → InDoubt t p v → Holds u p v → ⊥
+    still-not-held p v d h = by-origin (change .comes (h .slot) (h .call) (h .state) (h .live))
+      where
+        by-origin : Comes t e (h .slot) (h .call) (h .state) → ⊥
+        by-origin (old q live f) = s .doubt-not-held p v d (record { slot = h .slot; call = h .call; state = q; live = live; pair = h .pair })
+        by-origin (new n place) =
+            clash (rw (h .pair .vpci, h .pair .vci) d)
+            ((free-permitted (t .slots .all) (t .doubts) (t .pool) (h .call .vpci) (h .call .vci) (n .pair)) .2)
 
-  admitted-doubted : (r : ℕ) (f : Found) → DoubtedBy (admitted t r f)
-  admitted-doubted r Nothing = keeps
-  admitted-doubted r (At i) = pair-doubted r i (freePair t)
-
-  setup-doubted : (r : ℕ) (a : Admission) → DoubtedBy (setupEffect t r a)
-  setup-doubted r (Refused c) = keeps
-  setup-doubted r Admitted = admitted-doubted r (place isEmpty (t .slots .all))
-
-  no-call-doubted : (m : List ℕ) (h : Header) → DoubtedBy (onNoCall t m h)
-  no-call-doubted m h =
-      by-cond DoubtedBy (eqb (h .kind) 0x05) _ _
-      (by-cond DoubtedBy (not (h .flag) && h .whole) _ _ (setup-doubted (h .reference) (admission m 9)) keeps)
-      keeps
-
-  hold-doubted : (m : List ℕ) (h : Header) (reading i : ℕ) (k : Hold) → DoubtedBy (onHold t m h reading i k)
-  hold-doubted m h reading i Empty = keeps
-  hold-doubted m h reading i (Live c) = keeps
-
-  found-doubted : (m : List ℕ) (h : Header) (reading : ℕ) (f : Found) → DoubtedBy (addressed t m h reading f)
-  found-doubted m h reading Nothing = no-call-doubted m h
-  found-doubted m h reading (At i) = hold-doubted m h reading i (slotAt t i .hold)
-
-  head-doubted : (m : List ℕ) (reading : ℕ) (x : Head) → DoubtedBy (heardBy t reading m x)
-  head-doubted m reading Ignored = keeps
-  head-doubted m reading (Is h) =
-      by-cond DoubtedBy (eqb (h .reference) 0) _ _ (global-doubted m h)
-      (found-doubted m h reading (place (isCall (h .flag) (h .reference)) (t .slots .all)))
-
-  fire-doubted : (reading i : ℕ) (k : Hold) → slotAt t i .hold ≡ k → DoubtedBy (fireHold t reading i k)
-  fire-doubted reading i Empty g = keeps
-  fire-doubted reading i (Live c) g =
-      by-test (lastT308 (c .phase) && not (noRoom t))
-      (λ y.
-      let a = both (lastT308 (c .phase)) (not (noRoom t)) y in
-      let room = not-true (noRoom t) (a .1) in
-      let ended = last-gone (noRoom t) (c .phase) reading (a .0) room in
-      rw y
-      (begins i c g (getD-set-same (t .slots .all) i _ noSlot (live-within t i c g) ∙ rw ended) (λ j other. getD-set-other (t .slots .all) i j _ noSlot other) room))
-      (λ n. rw n keeps)
-
-  fired-doubted : (reading : ℕ) (f : Found) → DoubtedBy (fired t reading f)
-  fired-doubted reading Nothing = keeps
-  fired-doubted reading (At i) = fire-doubted reading i (slotAt t i .hold) refl
-
-  connected-doubted : (i : ℕ) (k : Hold) → DoubtedBy (connected t i k)
-  connected-doubted i Empty = keeps
-  connected-doubted i (Live c) = keeps
-
-  cleared-doubted : (reading i cause : ℕ) (k : Hold) → DoubtedBy (cleared t reading i cause k)
-  cleared-doubted reading i cause Empty = keeps
-  cleared-doubted reading i cause (Live c) = keeps
-
--- the table after an event, its slots and its doubts
-pub record DoubtsOf (t u : Table) : Type 0 where
-  pub doubt : Doubting
-  pub after : u .doubts ≡ doubtsOf (doubtsAfter doubt (t .doubts .entries))
-  pub doubted : Doubted t (u .slots .all) doubt
-
-made : (t : Table) (x : Effect) (u : Table) → u .slots ≡ x .slots → u .doubts ≡ doubtsOf (doubtsAfter (x .doubt) (t .doubts .entries)) → Doubted t (x .slots .all) (x .doubt) → DoubtsOf t u
-made t x u slots after d = record { doubt = x .doubt; after = after; doubted = rw slots d }
-
-offered-on-doubted : (t : Table) (reading : ℕ) (body : List ℕ) (i : ℕ) (c : Channel) → DoubtsOf t (offeredOn t reading body i c .answer .table)
-offered-on-doubted t reading body i None = record { doubt = Keep; after = refl; doubted = keeps }
-offered-on-doubted t reading body i (Pair p v) = record { doubt = Keep; after = refl; doubted = keeps }
-
-offered-doubted : (t : Table) (reading : ℕ) (body : List ℕ) (f : Found) → DoubtsOf t (offered t reading body f .answer .table)
-offered-doubted t reading body Nothing = record { doubt = Keep; after = refl; doubted = keeps }
-offered-doubted t reading body (At i) = offered-on-doubted t reading body i (freePair t)
-
-pub outcome-doubted : (t : Table) (e : Event) → DoubtsOf t (outcomeOf t e .answer .table)
-outcome-doubted t (message label reading room octets) =
-    made t (heardBy t reading octets (headOf octets)) _ refl refl (head-doubted t octets reading (headOf octets))
-outcome-doubted t (tick label reading room) = made t (tickEffect t reading) _ refl refl (fired-doubted t reading (nextDue reading (t .slots .all)))
-outcome-doubted t (connect label reading room slot) = made t (connected t slot (holdAt t slot)) _ refl refl (connected-doubted t slot (holdAt t slot))
-outcome-doubted t (clear label reading room slot cause) =
-    made t (cleared t reading slot cause (holdAt t slot)) _ refl refl (cleared-doubted t reading slot cause (holdAt t slot))
-outcome-doubted t (offer label reading room body) = offered-doubted t reading body (place isEmpty (t .slots .all))
-
--- Afterwards they are as they must be.
-
-is-pair : (p v q w : ℕ) → isEntry q w (pairEntry p v) ≡ true → (p ≡ q) × (v ≡ w)
-is-pair p v q w e = let a = both (eqb p q) (eqb v w) e in (eqb-true p q (a .0), eqb-true v w (a .1))
-
-module _ (t : Table) (e : Event) (s : Sound t) (u : Table) (change : Change t e (u .slots .all)) (pool : u .pool ≡ t .pool) where
-  abbrev es : List Entry
-  es = t .doubts .entries
-
-  -- a pair in doubt before the event is held by no call after it
-  still-not-held : (p v : ℕ) → InDoubt t p v → Holds u p v → ⊥
-  still-not-held p v d h = by-origin (change .comes (h .slot) (h .call) (h .live))
-    where
-      by-origin : Comes t e (h .slot) (h .call) → ⊥
-      by-origin (old c live same f) =
-          s .doubt-not-held p v d (record { slot = h .slot; call = c; live = live; pair = record { vpci = same .vpci ∙ h .pair .vpci; vci = same .vci ∙ h .pair .vci } })
-      by-origin (new n place) =
-          let free = lowest.free-permitted (heldOf (t .slots .all) .entries) es (t .pool) (h .call .vpci) (h .call .vci) (n .pair) in
-          clash (rw (h .pair .vpci, h .pair .vci) d) (free .2)
-
-  -- the doubts afterwards
-  pub record DoubtsSound : Type 0 where
-    pub room : length (u .doubts .entries) ≡ doubtRoom
-    pub in-order : tidy (u .doubts .entries) ≡ true
-    pub permits : (p v : ℕ) → InDoubt u p v → permitted (u .pool) p v ≡ true
-    pub not-held : (p v : ℕ) → InDoubt u p v → Holds u p v → ⊥
-
-  before-after : (d : Doubting) → u .doubts ≡ doubtsOf (doubtsAfter d es) → (p v : ℕ) → InDoubt u p v → among p v (doubtsAfter d es) ≡ true
-  before-after d after p v h = rw after at h
-
-  permits-old : (p v : ℕ) → InDoubt t p v → permitted (u .pool) p v ≡ true
-  permits-old p v h = rw pool (s .doubt-permitted p v h)
-
-  from-old : (d : Doubting) → u .doubts ≡ doubtsOf (doubtsAfter d es) → anew d es ≡ true → ((p v : ℕ) → among p v (doubtsAfter d es) ≡ true → InDoubt t p v) → DoubtsSound
-  from-old d after new-one back = record {
-    room = rw after (doubts-after-length d es (s .doubts-room));
-    in-order = rw after (doubts-after-tidy d es new-one (s .doubts-tidy));
-    permits = λ p v h. permits-old p v (back p v (before-after d after p v h));
-    not-held = λ p v h. still-not-held p v (back p v (before-after d after p v h));
-  }
-
-  module _ (i : ℕ) (c : Call) (live : HasCall t i c) (gone : getD (u .slots .all) i noSlot ≡ noSlot)
-      (others : (j : ℕ) → j ≢ i → getD (u .slots .all) j noSlot ≡ slotAt t j) (room : isFull es ≡ false)
-      (after : u .doubts ≡ doubtsOf (sunk (pairEntry (c .vpci) (c .vci)) es)) where
-    -- a call of the table afterwards is one of the table before, in another slot
-    held-before : (p v : ℕ) → Holds u p v → (h : Holds t p v) × (h .slot ≢ i)
-    held-before p v h =
-        let other : h .slot ≢ i = λ same. not-live (h .call) (ap (λ (x : Slot). x .hold) (sym gone) ∙ rw (← same) (h .live)) in
-        (record { slot = h .slot; call = h .call; live = ap (λ (x : Slot). x .hold) (sym (others (h .slot) other)) ∙ h .live; pair = h .pair }, other)
-
-    not-yet : among (c .vpci) (c .vci) es ≡ false
-    not-yet =
-        by-test (among (c .vpci) (c .vci) es)
-        (λ y. absurd (s .doubt-not-held (c .vpci) (c .vci) y (record { slot = i; call = c; live = live; pair = record { vpci = refl; vci = refl } })))
-        (λ n. n)
-
-    in-or-old : {P : Type 0} (p v : ℕ) → InDoubt u p v → ((c .vpci ≡ p) × (c .vci ≡ v) → P) → (InDoubt t p v → P) → P
-    in-or-old p v h f g =
-        either (isEntry p v (pairEntry (c .vpci) (c .vci))) (among p v es)
-        (sym (sunk-among (c .vpci) (c .vci) p v es (s .doubts-tidy) room) ∙ rw after at h)
-        (λ y. f (is-pair (c .vpci) (c .vci) p v y))
-        g
-
-    begun-sound : DoubtsSound
-    begun-sound = record {
-      room = rw after (doubts-after-length (Begin (c .vpci) (c .vci)) es (s .doubts-room));
-      in-order = rw after (doubts-after-tidy (Begin (c .vpci) (c .vci)) es (rw not-yet) (s .doubts-tidy));
-      permits = λ p v h. in-or-old p v h (λ same. rw (pool, ← same .0, ← same .1) ((s .calls-sound i c live) .pair-permitted)) (permits-old p v);
-      not-held = λ p v h k.
-          let b = held-before p v k in
-          in-or-old p v h
-          (λ same. b .1 (s .pair-once (b .0 .slot) i (b .0 .call) c (b .0 .live) live (b .0 .pair .vpci ∙ sym (same .0)) (b .0 .pair .vci ∙ sym (same .1))))
-          (λ d. s .doubt-not-held p v d (b .0));
+    -- no doubt is new
+    from-old : Tidy (u .doubts) → ((p v : ℕ) → InDoubt u p v → InDoubt t p v) → DoubtsSound u
+    from-old tidy back = record {
+      in-order = tidy;
+      permits = λ p v h. s .doubt-permitted p v (back p v h);
+      not-held = λ p v h. still-not-held p v (back p v h);
     }
 
-  by-doubt : (d : Doubting) → u .doubts ≡ doubtsOf (doubtsAfter d es) → Doubted t (u .slots .all) d → DoubtsSound
-  by-doubt d after keeps = from-old Keep after refl (λ p v h. h)
-  by-doubt d after (ends q w) = from-old (End q w) after refl (λ p v h. (both (not (isEntry p v (pairEntry q w))) (among p v es) (sym (ended-among q w p v es (s .doubts-tidy)) ∙ h)) .1)
-  by-doubt d after ends-all = from-old EndAll after refl (λ p v h. clash h (none-among doubtRoom p v))
-  by-doubt d after (begins i c live gone others room) = begun-sound i c live gone others room after
+  -- the pair of a call that goes
+  module _ (i : ℕ) (c : Call) (q : State) (live : HasCall t i c q) (room : noRoom t ≡ false) where
+    abbrev w : Table
+    w = tableAfter t (readingOf e) (Doubt i (c .vpci) (c .vci))
 
-  pub doubts-sound : DoubtsOf t u → DoubtsSound
-  doubts-sound d = by-doubt (d .doubt) (d .after) (d .doubted)
+    -- a call of the table afterwards is one of the table before, in another slot
+    held-before : (p v : ℕ) → Holds w p v → (h : Holds t p v) × (h .slot ≢ i)
+    held-before p v h =
+        let after = set (t .slots .all) i noSlot in
+        let gone = getD-set-same (t .slots .all) i noSlot noSlot (live-within t i c q live) in
+        let other : h .slot ≢ i = λ same. not-live (h .call) (h .state) (ap (λ (x : Slot). x .hold) (sym gone) ∙ ap (λ (j : ℕ). getD after j noSlot .hold) (sym same) ∙ h .live) in
+        let stays = getD-set-other (t .slots .all) i (h .slot) noSlot noSlot other in
+        (record { slot = h .slot; call = h .call; state = h .state; live = ap (λ (x : Slot). x .hold) (sym stays) ∙ h .live; pair = h .pair }, other)
+
+    not-yet : inPairs (t .doubts) (c .vpci) (c .vci) ≡ false
+    not-yet =
+        by-test (inPairs (t .doubts) (c .vpci) (c .vci))
+        (λ y. absurd (s .doubt-not-held (c .vpci) (c .vci) y (record { slot = i; call = c; state = q; live = live; pair = record { vpci = refl; vci = refl } })))
+        (λ n. n)
+
+    in-or-old : {P : Type 0} (p v : ℕ) → InDoubt w p v → ((c .vpci ≡ p) × (c .vci ≡ v) → P) → (InDoubt t p v → P) → P
+    in-or-old p v h f g =
+        let k = s .calls-sound i c q live in
+        either (eqb (c .vpci) p && eqb (c .vci) v) (inPairs (t .doubts) p v)
+        (sym (with-in (t .doubts) (c .vpci) (c .vci) p v room (omega (arith, k .vci-high))) ∙ h)
+        (λ y. let a = both (eqb (c .vpci) p) (eqb (c .vci) v) y in f (eqb-true _ _ (a .0), eqb-true _ _ (a .1)))
+        g
+
+    begun-sound : DoubtsSound w
+    begun-sound =
+        let k = s .calls-sound i c q live in
+        record {
+          in-order = with-tidy (t .doubts) (c .vpci) (c .vci) (s .doubts-tidy) not-yet (omega (arith, k .vci-high));
+          permits = λ p v h. in-or-old p v h (λ same. rw (← same .0, ← same .1) (k .pair-permitted)) (s .doubt-permitted p v);
+          not-held = λ p v h b.
+              let a = held-before p v b in
+              in-or-old p v h
+              (λ same. a .1 (s .pair-once (a .0 .slot) i (a .0 .call) c (a .0 .state) q (a .0 .live) live (a .0 .pair .vpci ∙ sym (same .0)) (a .0 .pair .vci ∙ sym (same .1))))
+              (λ d. s .doubt-not-held p v d (a .0));
+        }
+
+  pub doubts-sound : (x : declared.Change) → Change t e (slotsAfter x (t .slots) .all) → Doubted t x → DoubtsSound (tableAfter t (readingOf e) x)
+  doubts-sound x change keeps = from-old Keep change (s .doubts-tidy) (λ p v h. h)
+  doubts-sound x change (puts i a n) = from-old (Put i a n) change (s .doubts-tidy) (λ p v h. h)
+  doubts-sound x change (ends which) =
+      from-old (Restart which) change (unless-tidy (t .doubts) which (s .doubts-tidy))
+      (λ p v h. (both (not (names which p v)) (inPairs (t .doubts) p v) (sym (unless-in (t .doubts) which p v) ∙ h)) .1)
+  doubts-sound x change (begins i c q live room) = begun-sound i c q live room

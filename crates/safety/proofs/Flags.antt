@@ -1,268 +1,302 @@
--- A notice and its flags name exactly the slots meant, and what became of a slot has its notice, by every event.
---   to-exact, slot-exact, assigned-exact, gone-exact      a call in another state; a verdict; a call that is asked; those that RESTART ends
---   outcome-exact                                         of an event that nothing refuses
+-- Each notice goes with its flags, and what became of a slot has its notice.
+--   not-asked, not-answered, not-gone      nothing became of a slot that stays
+--   Exactly                                a notice and flags name exactly the slots meant, and what became of a slot has its notice
+--   quiet-exact                            no slot changes
+--   asked-exact, moved-exact, answered-exact, ended-exact     one slot is set
+--   gone-exact                             calls on the pairs of a RESTART are gone
 --   flags-exact
 -- Assumes nothing.
-use Prim.Native.Nat.{ℕ, zero, suc}
+use Prim.Native.Nat.{ℕ, zero, suc, _≤_, _<_}
 use mathlib.Core.Path.{_≡_, refl, sym, ap, _∙_}
 use mathlib.Core.Logic.{_≢_}
-use mathlib.Core.Bool.{Bool, true, false, not, _&&_, _||_}
+use mathlib.Core.Bool.{Bool, true, false}
 use mathlib.Core.List.{List, [], _∷_, map}
-use lib.Dec.{eqb, ltb}
-use lib.ListN.{length, getD, length-map}
+use native.Mathlib.Omega.{arith}
+use lib.Dec.{eqb}
+use lib.ListN.{length, getD, set, replicate, length-replicate, length-set, length-map}
+use lib.Seq.{getD-set-same, getD-set-other}
+use borrow.Author.Tests.{eqb-true, eqb-false}
 use Rattle.channels.specs.Some.{someOf}
-use Rattle.channels.specs.declared.Channel.{Channel}
-use Rattle.channels.specs.declared.Channel.the-variants.{None, Pair}
-use Rattle.channels.specs.Channels.{permanent, knownVpci}
+use Rattle.channels.specs.declared.Named.{Named}
+use Rattle.channels.specs.declared.Named.the-variants as named
 use Rattle.channels.proofs.Cases.{by-test, clash}
 use Rattle.channels.proofs.Some.{some-at}
-use Rattle.doubts.specs.declared.Doubting.{Doubting}
-use Rattle.doubts.specs.declared.Doubting.the-variants.{End, EndAll, Keep}
-use Rattle.calls.specs.declared.Phase.{Phase}
-use Rattle.calls.specs.declared.Phase.the-variants.{N10}
+use Rattle.calls.specs.declared.State.{State}
+use Rattle.calls.specs.declared.State.the-variants.{N10}
 use Rattle.calls.specs.declared.Call.{Call}
 use Rattle.calls.specs.declared.Hold.{Hold}
 use Rattle.calls.specs.declared.Hold.the-variants.{Empty, Live}
 use Rattle.calls.specs.declared.Slot.{Slot}
-use Rattle.calls.specs.Calls.{moved, noSlot, isEmpty, isLive, isCall, holdsPair, onPair as pairHeld, emptied}
-use Rattle.first.specs.declared.Found.{Found}
-use Rattle.first.specs.declared.Found.the-variants.{Nothing, At}
-use Rattle.first.specs.First.{place}
+use Rattle.calls.specs.Calls.{noSlot, liveSlot, isEmpty, isNamed, emptied}
 use Rattle.first.proofs.First.{placed}
-use Rattle.slots.specs.Slots.{flagsOf, unusedReference, gone}
-use Rattle.slots.specs.Timers.{nextDue}
-use Rattle.header.specs.declared.Header.{Header}
-use Rattle.header.specs.declared.Head.{Head}
-use Rattle.header.specs.declared.Head.the-variants.{Ignored, Is}
-use Rattle.header.specs.Header.{headOf}
-use Rattle.elements.specs.declared.ConnectionRead.{ConnectionRead}
-use Rattle.elements.specs.declared.ConnectionRead.the-variants as connectionRead
-use Rattle.elements.specs.declared.RestartRead.{RestartRead}
-use Rattle.elements.specs.declared.RestartRead.the-variants as restartRead
-use Rattle.elements.specs.Values.{connectionIn, restartIn}
-use Rattle.replies.specs.declared.Reply.{Reply}
-use Rattle.replies.specs.declared.Reply.the-variants as reply
-use Rattle.setup.specs.declared.Admission.{Admission}
-use Rattle.setup.specs.declared.Admission.the-variants.{Admitted, Refused}
-use Rattle.setup.specs.Setup.{admission}
-use Rattle.verdicts.specs.declared.Verdict.{Verdict}
-use Rattle.verdicts.specs.Verdict.{turned}
-use Rattle.verdicts.specs.Expiry.{released, expire}
-use Rattle.judging.specs.Judge.{judge}
-use Rattle.effects.specs.declared.Effect.{Effect}
-use Rattle.effects.specs.Effect.{slotCount, onSlot, assigned, afterGone, isSet, doubtOf, doubting}
-use Rattle.effects.specs.Restart.{pairRestart, restartEffect}
+use Rattle.slots.specs.declared.Flags.{Flags}
+use Rattle.slots.specs.Slots.{slotCount, isSet}
+use Rattle.effects.specs.declared.Change.{Change}
+use Rattle.effects.specs.declared.Change.the-variants.{Restart}
+use Rattle.effects.specs.Change.{noFlags, flagsAt, flagsOf, goneNotice, noticeOf}
 use Rattle.table.specs.declared.Table.{Table}
-use Rattle.table.specs.Effects.{freePair, userCall, onPair, admitted, setupEffect, onNoCall, onHold, addressed, globalEffect, fireHold, fired, noRoom}
-use Rattle.refusals.specs.Refusals.{holdAt}
-use Rattle.outcome.specs.Outcome.{Outcome, stored, refusedWith}
-use Rattle.commands.specs.Commands.{connected, cleared, networkCall, offeredOn}
-use Rattle.control.specs.Events.{heardBy, offered}
-use Rattle.control.specs.Happens.{Event, message, tick, connect, clear, offer, happens}
-use Rattle.safety.specs.Tables.{HasSlots, slotAt, HasCall}
-use Rattle.safety.specs.Flags.{CallGone, NoNotice, TellsAll, FlagsExact}
+use Rattle.table.specs.Effects.{tableAfter}
+use Rattle.outcome.specs.Outcome.{Outcome}
+use Rattle.control.specs.Happens.{Event}
+use Rattle.views.specs.Tables.{HasSlots, slotAt, HasCall}
+use Rattle.views.specs.Effects.{readingOf}
+use Rattle.views.proofs.View.{by-event}
+use Rattle.safety.specs.Flags.{flagOf, CallAsked, CallAnswered, CallGone, OneFlag, NamesExactly, NoNotice, TellsAll, FlagsExact}
 use Rattle.safety.proofs.Tables.{not-live, live-within, empty-at}
-use Rattle.safety.proofs.Refusals.{refusalOf}
-use Rattle.safety.proofs.FixedAnswers.{outcomeOf, happens-unless}
-use Rattle.safety.proofs.Lists.{getD-map, passes-within, some-found, set-same}
-use Rattle.safety.proofs.Cases.{by-cond}
-use Rattle.safety.proofs.FlagsNotes.{Notes, plain, turns, ends, answers, not-in-N12, judge-notes, expire-notes}
-use Rattle.safety.proofs.FlagsSlots.{not-asked, not-answered, not-gone, Exactly, none-named, some-gone-named, quiet-exact, asked-exact, answered-exact, ended-exact, turned-exact}
+use Rattle.safety.proofs.Lists.{getD-map, passes-within, some-found, getD-replicate-default}
+use Rattle.safety.proofs.Acts.{Acts, keeps, asks, moves, answers, ends, loses, restarts, does-acts}
 
-module _ (t : Table) (whole : HasSlots t) (event : Event) where
-  module _ (reading : ℕ) where
-    abbrev Exact : Effect → Type 0
-    Exact x = Exactly t (stored t reading x) event (x .notice) (x .flags)
+-- one call in two states
+same-state : (c d : Call) (q r : State) → Live c q ≡ Live d r → q ≡ r
+same-state c d q r e = cc
 
-    -- a call turns to the state q, with no notice
-    to-exact : (i : ℕ) (c : Call) → HasCall t i c → (doubt : Doubting) (flag : Bool) (r : ℕ) (q : Phase) (a : Reply) → (¬ NoNotice event → q ≢ N10)
-        → Exact (doubting doubt (onSlot (t .slots) i flag r (turned q a 0)))
-    to-exact i c live doubt flag r q a other =
-        turned-exact t whole event i (record { hold = Live (moved c q) }) (live-within t i c live) _ (rw live) c q live refl other
+-- equal slots hold the same
+hold-same : {s s′ : Slot} → s ≡ s′ → s .hold ≡ s′ .hold
+hold-same e = ap (λ (s : Slot). s .hold) e
 
-    connected-exact : (i : ℕ) (k : Hold) → slotAt t i .hold ≡ k → NoNotice event → Exact (connected t i k)
-    connected-exact i Empty h none = quiet-exact t _ event refl
-    connected-exact i (Live c) h none = to-exact i c h Keep (not (c .network)) (c .reference) N10 reply.Connect (λ own. absurd (own none))
+-- a slot that stays: nothing became of it
+module _ {P : Type 0} (t u : Table) (i : ℕ) (same : slotAt u i ≡ slotAt t i) where
+  not-asked : CallAsked t u i → P
+  not-asked m = not-live (m .call) (m .state) (hold-same (sym (same ∙ m .before)) ∙ m .after)
 
-    cleared-exact : (i cause : ℕ) (k : Hold) → slotAt t i .hold ≡ k → Exact (cleared t reading i cause k)
-    cleared-exact i cause Empty h = quiet-exact t _ event refl
-    cleared-exact i cause (Live c) h = to-exact i c h Keep (not (c .network)) (c .reference) _ (released reading false cause false .reply) (λ own. not-in-N12 _)
+  not-answered : CallAnswered t u i → P
+  not-answered m = absurd (m .waiting (same-state (m .call) (m .call) (m .state) N10 (sym (m .before) ∙ hold-same (sym same) ∙ m .after)))
 
-  module _ (reading : ℕ) (own : ¬ NoNotice event) where
-    slot-exact : (i : ℕ) (c : Call) → HasCall t i c → (doubt : Doubting) (flag : Bool) (r : ℕ) (v : Verdict) → Notes (c .phase) v
-        → Exact reading (doubting doubt (onSlot (t .slots) i flag r v))
-    slot-exact i c live doubt flag r v (plain a) = quiet-exact t _ event (set-same (t .slots .all) i noSlot)
-    slot-exact i c live doubt flag r v (turns q a other) = to-exact reading i c live doubt flag r q a (λ _. other)
-    slot-exact i c live doubt flag r v (ends a) = ended-exact t whole event i noSlot (live-within t i c live) _ refl c own live refl
-    slot-exact i c live doubt flag r v (answers a waiting) =
-        answered-exact t whole event i (record { hold = Live (moved c N10) }) (live-within t i c live) _ (rw live) c own live waiting refl
+  not-gone : CallGone t u i → P
+  not-gone m = not-live (m .call) (m .state) (hold-same (sym (m .after) ∙ same) ∙ m .before)
 
-    assigned-exact : (i : ℕ) → place isEmpty (t .slots .all) ≡ At i → (flag : Bool) (r : ℕ) (c : Call) (a : Reply) → Exact reading (assigned (t .slots) i flag r c a)
-    assigned-exact i e flag r c a =
-        let at = placed isEmpty noSlot (t .slots .all) i e in
-        asked-exact t whole event i (record { hold = Live c }) (at .below) _ refl c own (empty-at t i (at .passes)) refl
+abbrev Exactly : Table → Table → Event → ℕ → Flags → Type 0
+Exactly t u e n f = NamesExactly t u n f × TellsAll t u e n
 
-    -- those that pass p are gone
-    module _ (p : Slot → Bool) (live-only : (s : Slot) → p s ≡ true → (c : Call) × (s .hold ≡ Live c)) where
-      not-empty : p noSlot ≡ false
-      not-empty = by-test (p noSlot) (λ y. let l = live-only noSlot y in not-live (l .0) (l .1)) (λ n. n)
+-- no flag
 
-      flag-at : (ss : List Slot) (i : ℕ) → getD (map p ss) i false ≡ p (getD ss i noSlot)
-      flag-at [] i = sym not-empty
+none-named : (t u : Table) (f : Flags) → length (f .on) ≡ slotCount → ((i : ℕ) → flagOf f i ≡ false) → NamesExactly t u 0 f
+none-named t u f size none = record {
+  thirty-two = size;
+  most = omega arith;
+  with-0 = λ z. none;
+  with-1 = λ z. absurd (omega arith);
+  with-2 = λ z. absurd (omega arith);
+  with-3 = λ z. absurd (omega arith);
+  with-3-all = λ z. absurd (omega arith);
+  with-3-some = λ z. absurd (omega arith);
+}
+
+unset-named : (t u : Table) → NamesExactly t u 0 noFlags
+unset-named t u = none-named t u noFlags (length-replicate slotCount false) (λ i. getD-replicate-default slotCount i false)
+
+-- all slots stay
+quiet-exact : (t u : Table) (e : Event) → ((i : ℕ) → slotAt u i ≡ slotAt t i) → Exactly t u e 0 noFlags
+quiet-exact t u e same = (
+  unset-named t u,
+  record {
+    asked = λ i. not-asked t u i (same i);
+    answered = λ own i. not-answered t u i (same i);
+    gone = λ i. not-gone t u i (same i);
+    unnamed = λ none. refl;
+  },
+)
+
+-- slot i is set to s
+module _ (t : Table) (whole : HasSlots t) (e : Event) (i : ℕ) (s : Slot) (below : i < length (t .slots .all)) (u : Table) (left : u .slots .all ≡ set (t .slots .all) i s) where
+  set-at : flagOf (flagsAt i) i ≡ true
+  set-at = getD-set-same (replicate slotCount false) i true false (rw (length-replicate slotCount false, ← whole) below)
+
+  unset-at : (j : ℕ) → j ≢ i → flagOf (flagsAt i) j ≡ false
+  unset-at j other = getD-set-other (replicate slotCount false) i j true false other ∙ getD-replicate-default slotCount j false
+
+  here : slotAt u i ≡ s
+  here = rw left (getD-set-same (t .slots .all) i s noSlot below)
+
+  there : (j : ℕ) → j ≢ i → slotAt u j ≡ slotAt t j
+  there j other = rw left (getD-set-other (t .slots .all) i j s noSlot other)
+
+  only-here : (j : ℕ) → ¬ (j ≢ i) → j ≡ i
+  only-here j same = by-test (eqb j i) (λ y. eqb-true j i y) (λ n. absurd (same (eqb-false j i n)))
+
+  one-flag : (Meant : ℕ → Type 0) → Meant i → ((j : ℕ) → Meant j → ¬ (j ≢ i)) → OneFlag (flagsAt i) Meant
+  one-flag Meant meant only = record { slot = i; meant = meant; no-other = λ j m. only-here j (only j m); raised = set-at; none-else = unset-at }
+
+  -- the one flag names what the notice says became of slot i
+  set-named : (n : ℕ) → 1 ≤ n → n ≤ 3 → (n ≡ 1 → CallAsked t u i) → (n ≡ 2 → CallAnswered t u i) → (n ≡ 3 → CallGone t u i) → NamesExactly t u n (flagsAt i)
+  set-named n some most asked answered gone = record {
+    thirty-two = length-set (replicate slotCount false) i true ∙ length-replicate slotCount false;
+    most = most;
+    with-0 = λ z. absurd (omega arith);
+    with-1 = λ z. one-flag (CallAsked t u) (asked z) (λ j m other. not-asked t u j (there j other) m);
+    with-2 = λ z. one-flag (CallAnswered t u) (answered z) (λ j m other. not-answered t u j (there j other) m);
+    with-3 = λ z j on. let same = only-here j (λ other. clash on (unset-at j other)) in rw same (gone z);
+    with-3-all = λ z j m. let same = only-here j (λ other. not-gone t u j (there j other) m) in rw same set-at;
+    with-3-some = λ z. (i, set-at);
+  }
+
+  -- what became of slot i has its notice
+  set-tells : (n : ℕ) → (CallAsked t u i → n ≡ 1) → (¬ NoNotice e → CallAnswered t u i → n ≡ 2) → (CallGone t u i → n ≡ 3) → (NoNotice e → n ≡ 0) → TellsAll t u e n
+  set-tells n asked answered gone unnamed = record {
+    asked = λ j m. asked (rw (only-here j (λ other. not-asked t u j (there j other) m)) at m);
+    answered = λ own j m. answered own (rw (only-here j (λ other. not-answered t u j (there j other) m)) at m);
+    gone = λ j m. gone (rw (only-here j (λ other. not-gone t u j (there j other) m)) at m);
+    unnamed = unnamed;
+  }
+
+  asked-exact : (c : Call) (q : State) → ¬ NoNotice e → slotAt t i ≡ noSlot → s .hold ≡ Live c q → Exactly t u e 1 (flagsAt i)
+  asked-exact c q own empty live = (
+    set-named 1 (omega arith) (omega arith)
+        (λ z. record { call = c; state = q; before = empty; after = rw here live })
+        (λ z. absurd (omega arith))
+        (λ z. absurd (omega arith)),
+    set-tells 1
+        (λ m. refl)
+        (λ _ m. not-live (m .call) (m .state) (hold-same (sym empty) ∙ m .before))
+        (λ m. not-live (m .call) (m .state) (hold-same (sym empty) ∙ m .before))
+        (λ none. absurd (own none)),
+  )
+
+  -- slot i held the call c in state q
+  module _ (c : Call) (q : State) (live : HasCall t i c q) where
+    held-before : {P : Type 0} → CallAsked t u i → P
+    held-before m = not-live c q (hold-same (sym (m .before)) ∙ live)
+
+    held-after : {P : Type 0} (r : State) → s .hold ≡ Live c r → CallGone t u i → P
+    held-after r holds m = not-live c r (hold-same (sym (m .after) ∙ here) ∙ holds)
+
+    -- with no notice
+    moved-exact : (r : State) → s .hold ≡ Live c r → (¬ NoNotice e → r ≢ N10) → Exactly t u e 0 noFlags
+    moved-exact r holds other = (
+      unset-named t u,
+      set-tells 0 held-before
+          (λ own m. absurd (other own (same-state c (m .call) r N10 (sym holds ∙ hold-same (sym here) ∙ m .after))))
+          (held-after r holds)
+          (λ none. refl),
+    )
+
+    answered-exact : ¬ NoNotice e → q ≢ N10 → s .hold ≡ Live c N10 → Exactly t u e 2 (flagsAt i)
+    answered-exact own waiting holds = (
+      set-named 2 (omega arith) (omega arith)
+          (λ z. absurd (omega arith))
+          (λ z. record { call = c; state = q; before = live; waiting = waiting; after = rw here holds })
+          (λ z. absurd (omega arith)),
+      set-tells 2 held-before (λ _ m. refl) (held-after N10 holds) (λ none. absurd (own none)),
+    )
+
+    ended-exact : ¬ NoNotice e → s ≡ noSlot → Exactly t u e 3 (flagsAt i)
+    ended-exact own empty = (
+      set-named 3 (omega arith) (omega arith)
+          (λ z. absurd (omega arith))
+          (λ z. absurd (omega arith))
+          (λ z. record { call = c; state = q; before = live; after = here ∙ empty }),
+      set-tells 3 held-before
+          (λ _ m. not-live (m .call) N10 (hold-same (sym (here ∙ empty)) ∙ m .after))
+          (λ m. refl)
+          (λ none. absurd (own none)),
+    )
+
+-- calls on the pairs of a RESTART are gone
+
+named-live : (which : Named) (s : Slot) → isNamed which s ≡ true → (c : Call) × ((q : State) × (s .hold ≡ Live c q))
+named-live which s = hold-live which (s .hold)
+  where
+    hold-live : (which : Named) (h : Hold) → isNamed which (record { hold = h }) ≡ true → (c : Call) × ((q : State) × (h ≡ Live c q))
+    hold-live named.All Empty e = clash e refl
+    hold-live named.All (Live c q) e = (c, (q, refl))
+    hold-live (named.Pair p v) Empty e = clash e refl
+    hold-live (named.Pair p v) (Live c q) e = (c, (q, refl))
+
+module _ (t : Table) (whole : HasSlots t) (e : Event) (reading : ℕ) (which : Named) where
+  abbrev after : Table
+  after = tableAfter t reading (Restart which)
+
+  abbrev on : List Bool
+  on = map (isNamed which) (t .slots .all)
+
+  none-named-empty : isNamed which noSlot ≡ false
+  none-named-empty = by-test (isNamed which noSlot) (λ y. let l = named-live which noSlot y in not-live (l .0) (l .1 .0) (l .1 .1)) (λ n. n)
+
+  on-at : (i : ℕ) → getD on i false ≡ isNamed which (slotAt t i)
+  on-at i = flag-at (t .slots .all) i
+    where
+      flag-at : (ss : List Slot) (i : ℕ) → getD (map (isNamed which) ss) i false ≡ isNamed which (getD ss i noSlot)
+      flag-at [] i = sym none-named-empty
       flag-at (s ∷ ss) zero = refl
       flag-at (s ∷ ss) (suc i) = flag-at ss i
 
-      left-at : (i : ℕ) → getD (map (emptied p) (t .slots .all)) i noSlot ≡ emptied p (slotAt t i)
-      left-at i = getD-map (emptied p) noSlot (rw not-empty) (t .slots .all) i
+  left-at : (i : ℕ) → slotAt after i ≡ emptied (isNamed which) (slotAt t i)
+  left-at i = getD-map (emptied (isNamed which)) noSlot (rw none-named-empty) (t .slots .all) i
 
-      sized : length (map p (t .slots .all)) ≡ slotCount
-      sized = length-map (t .slots .all) p ∙ whole
+  sized : length on ≡ slotCount
+  sized = length-map (t .slots .all) (isNamed which) ∙ whole
 
-      went : (u : Table) → u .slots .all ≡ map (emptied p) (t .slots .all) → (i : ℕ) → getD (map p (t .slots .all)) i false ≡ true → CallGone t u i
-      went u e i on =
-          let y = sym (flag-at (t .slots .all) i) ∙ on in
-          let l = live-only (slotAt t i) y in
-          record { call = l .0; before = l .1; after = rw e (left-at i ∙ rw y) }
+  -- a slot stays, or its call is gone and its flag is set
+  off-stays : (i : ℕ) → getD on i false ≡ false → slotAt after i ≡ slotAt t i
+  off-stays i off = left-at i ∙ rw (sym (on-at i) ∙ off)
 
-      told : (u : Table) → u .slots .all ≡ map (emptied p) (t .slots .all) → (i : ℕ) → CallGone t u i → getD (map p (t .slots .all)) i false ≡ true
-      told u e i g =
-          flag-at (t .slots .all) i
-          ∙ by-test (p (slotAt t i))
-          (λ y. y)
-          (λ n.
-          let same : slotAt u i ≡ slotAt t i = rw e (left-at i ∙ rw n) in
-          not-gone t u i same g)
+  on-empty : (i : ℕ) → getD on i false ≡ true → slotAt after i ≡ noSlot
+  on-empty i y = left-at i ∙ rw (sym (on-at i) ∙ y)
 
-      unset : someOf isSet (map p (t .slots .all)) ≡ false → (i : ℕ) → getD (map p (t .slots .all)) i false ≡ false
-      unset none i =
-          let on = map p (t .slots .all) in
-          by-test (getD on i false) (λ y. clash (some-at isSet false on i (passes-within isSet false on i refl y) y) none) (λ n. n)
+  went : (i : ℕ) → getD on i false ≡ true → CallGone t after i
+  went i y =
+      let l = named-live which (slotAt t i) (sym (on-at i) ∙ y) in
+      record { call = l .0; state = l .1 .0; before = l .1 .1; after = on-empty i y }
 
-      -- no call is asked, and none is answered
-      gone-tells : (u : Table) → u .slots .all ≡ map (emptied p) (t .slots .all) → (n : ℕ) → ((i : ℕ) → CallGone t u i → n ≡ 3) → (NoNotice event → n ≡ 0) → TellsAll t u event n
-      gone-tells u left n went unnamed = record {
-        asked = λ i m. unless-empty i (m .call) (m .after) (λ same. not-asked t u i same m);
-        answered = λ _ i m. unless-empty i (moved (m .call) N10) (m .after) (λ same. not-answered t u i same m);
-        gone = went;
-        unnamed = unnamed;
-      }
-        where
-          unless-empty : {P : Type 0} (i : ℕ) (c : Call) → HasCall u i c → (slotAt u i ≡ slotAt t i → P) → P
-          unless-empty i c live stays =
-              by-test (p (slotAt t i))
-              (λ on.
-              let empty : slotAt u i ≡ noSlot = rw left (left-at i ∙ rw on) in
-              not-live c (ap (λ (x : Slot). x .hold) (sym empty) ∙ live))
-              (λ off. stays (rw left (left-at i ∙ rw off)))
+  told : (i : ℕ) → CallGone t after i → getD on i false ≡ true
+  told i m = by-test (getD on i false) (λ y. y) (λ n. not-gone t after i (off-stays i n) m)
 
-      gone-exact : (doubt : Doubting) (flag : Bool) (a : Reply) → Exact reading (afterGone (gone p (t .slots .all)) doubt flag a)
-      gone-exact doubt flag a =
-          let on = map p (t .slots .all) in
-          by-test (someOf isSet on)
-          (λ y.
-          let f = some-found isSet false on y in
-          rw y (some-gone-named t _ (flagsOf on) sized (went _ refl) (told _ refl) (f .0, f .1 .1), gone-tells _ refl 3 (λ i g. refl) (λ none. absurd (own none))))
-          (λ n. rw n (none-named t _ (flagsOf on) sized (unset n), gone-tells _ refl 0 (λ i g. clash (told _ refl i g) (unset n i)) (λ none. refl)))
+  unset : someOf isSet on ≡ false → (i : ℕ) → getD on i false ≡ false
+  unset none i = by-test (getD on i false) (λ y. clash (some-at isSet false on i (passes-within isSet false on i refl y) y) none) (λ n. n)
 
-    live-live : (s : Slot) → isLive s ≡ true → (c : Call) × (s .hold ≡ Live c)
-    live-live s = hold-live (s .hold)
-      where
-        hold-live : (k : Hold) → isLive (record { hold = k }) ≡ true → (c : Call) × (k ≡ Live c)
-        hold-live Empty e = clash e refl
-        hold-live (Live c) e = (c, refl)
+  -- no call is asked, and none is answered
+  gone-tells : (n : ℕ) → ((i : ℕ) → CallGone t after i → n ≡ 3) → (NoNotice e → n ≡ 0) → TellsAll t after e n
+  gone-tells n gone unnamed = record {
+    asked = λ i m.
+        by-test (getD on i false)
+        (λ y. not-live (m .call) (m .state) (hold-same (sym (on-empty i y)) ∙ m .after))
+        (λ n. not-asked t after i (off-stays i n) m);
+    answered = λ own i m.
+        by-test (getD on i false)
+        (λ y. not-live (m .call) N10 (hold-same (sym (on-empty i y)) ∙ m .after))
+        (λ n. not-answered t after i (off-stays i n) m);
+    gone = gone;
+    unnamed = unnamed;
+  }
 
-    pair-live : (p v : ℕ) (s : Slot) → holdsPair p v s ≡ true → (c : Call) × (s .hold ≡ Live c)
-    pair-live p v s = hold-live (s .hold)
-      where
-        hold-live : (k : Hold) → pairHeld p v k ≡ true → (c : Call) × (k ≡ Live c)
-        hold-live Empty e = clash e refl
-        hold-live (Live c) e = (c, refl)
+  some-gone : someOf isSet on ≡ true → NamesExactly t after 3 (record { on = on })
+  some-gone some = record {
+    thirty-two = sized;
+    most = omega arith;
+    with-0 = λ z. absurd (omega arith);
+    with-1 = λ z. absurd (omega arith);
+    with-2 = λ z. absurd (omega arith);
+    with-3 = λ z. went;
+    with-3-all = λ z. told;
+    with-3-some = λ z. let f = some-found isSet false on some in (f .0, f .1 .1);
+  }
 
-    pair-restart-exact : (flag : Bool) (r : ConnectionRead) → Exact reading (pairRestart (t .slots) (t .pool) flag r)
-    pair-restart-exact flag connectionRead.Absent = quiet-exact t _ event refl
-    pair-restart-exact flag connectionRead.Unreadable = quiet-exact t _ event refl
-    pair-restart-exact flag (connectionRead.Pair p v) =
-        by-cond (Exact reading) (knownVpci (t .pool) p) _ _
-        (by-cond (Exact reading) (ltb v 32 || permanent (t .pool) p v) _ _ (quiet-exact t _ event refl) (gone-exact (holdsPair p v) (pair-live p v) (End p v) flag (reply.RestartAcknowledge p v)))
-        (quiet-exact t _ event refl)
+  gone-exact : ¬ NoNotice e → Exactly t after e (goneNotice (record { on = on })) (record { on = on })
+  gone-exact own =
+      by-test (someOf isSet on)
+      (λ y. rw y (some-gone y, gone-tells 3 (λ i m. refl) (λ none. absurd (own none))))
+      (λ n. rw n (none-named t after (record { on = on }) sized (unset n), gone-tells 0 (λ i m. clash (told i m) (unset n i)) (λ none. refl)))
 
-    restart-exact : (flag : Bool) (r : RestartRead) (d : ConnectionRead) → Exact reading (restartEffect (t .slots) (t .pool) flag r d)
-    restart-exact flag restartRead.Absent d = quiet-exact t _ event refl
-    restart-exact flag restartRead.Unreadable d = quiet-exact t _ event refl
-    restart-exact flag (restartRead.Class k) d = by-cond (Exact reading) (eqb k 0x82) _ _ (gone-exact isLive live-live EndAll flag reply.RestartAcknowledgeAll) (pair-restart-exact flag d)
+-- Every event.
 
-    global-exact : (m : List ℕ) (h : Header) → Exact reading (globalEffect t m h)
-    global-exact m h =
-        by-cond (Exact reading) (eqb (h .kind) 0x46 && not (h .flag)) _ _
-        (by-cond (Exact reading) (h .whole) _ _ (restart-exact true (restartIn m 9) (connectionIn m 9)) (quiet-exact t _ event refl))
-        (quiet-exact t _ event refl)
-
-    pair-exact : (r i : ℕ) (d : Channel) → place isEmpty (t .slots .all) ≡ At i → Exact reading (onPair t r i d)
-    pair-exact r i None e = quiet-exact t _ event refl
-    pair-exact r i (Pair p v) e = assigned-exact i e true r (userCall r p v) (reply.CallProceeding p v)
-
-    admitted-exact : (r : ℕ) (f : Found) → place isEmpty (t .slots .all) ≡ f → Exact reading (admitted t r f)
-    admitted-exact r Nothing e = quiet-exact t _ event refl
-    admitted-exact r (At i) e = pair-exact r i (freePair t) e
-
-    setup-exact : (r : ℕ) (a : Admission) → Exact reading (setupEffect t r a)
-    setup-exact r (Refused d) = quiet-exact t _ event refl
-    setup-exact r Admitted = admitted-exact r (place isEmpty (t .slots .all)) refl
-
-    no-call-exact : (m : List ℕ) (h : Header) → Exact reading (onNoCall t m h)
-    no-call-exact m h =
-        by-cond (Exact reading) (eqb (h .kind) 0x05) _ _
-        (by-cond (Exact reading) (not (h .flag) && h .whole) _ _ (setup-exact (h .reference) (admission m 9)) (quiet-exact t _ event refl))
-        (quiet-exact t _ event refl)
-
-    hold-exact : (m : List ℕ) (h : Header) (i : ℕ) (k : Hold) → slotAt t i .hold ≡ k → Exact reading (onHold t m h reading i k)
-    hold-exact m h i Empty e = quiet-exact t _ event refl
-    hold-exact m h i (Live c) e = slot-exact i c e Keep (not (h .flag)) (h .reference) (judge m h (c .phase) reading) (judge-notes m h reading (c .phase))
-
-    found-exact : (m : List ℕ) (h : Header) (f : Found) → Exact reading (addressed t m h reading f)
-    found-exact m h Nothing = no-call-exact m h
-    found-exact m h (At i) = hold-exact m h i (slotAt t i .hold) refl
-
-    head-exact : (m : List ℕ) (x : Head) → Exact reading (heardBy t reading m x)
-    head-exact m Ignored = quiet-exact t _ event refl
-    head-exact m (Is h) =
-        by-cond (Exact reading) (eqb (h .reference) 0) _ _ (global-exact m h)
-        (found-exact m h (place (isCall (h .flag) (h .reference)) (t .slots .all)))
-
-    fire-exact : (i : ℕ) (k : Hold) → slotAt t i .hold ≡ k → Exact reading (fireHold t reading i k)
-    fire-exact i Empty e = quiet-exact t _ event refl
-    fire-exact i (Live c) e = slot-exact i c e (doubtOf (noRoom t) c) (not (c .network)) (c .reference) (expire (noRoom t) (c .phase) reading) (expire-notes (noRoom t) (c .phase) reading)
-
-    fired-exact : (f : Found) → Exact reading (fired t reading f)
-    fired-exact Nothing = quiet-exact t _ event refl
-    fired-exact (At i) = fire-exact i (slotAt t i .hold) refl
-
-  -- Outcomes.
-
-  abbrev Named : Outcome → Type 0
-  Named o = Exactly t (o .answer .table) event (o .answer .notice) (o .answer .flags)
-
-  offered-on-exact : (reading : ℕ) (body : List ℕ) (i : ℕ) (d : Channel) → ¬ NoNotice event → place isEmpty (t .slots .all) ≡ At i → Named (offeredOn t reading body i d)
-  offered-on-exact reading body i None own h = quiet-exact t _ event refl
-  offered-on-exact reading body i (Pair p v) own h =
-      let new = unusedReference (t .slots .all) in
-      assigned-exact reading own i h false new (networkCall reading new p v) reply.None
-
-  offered-exact : (reading : ℕ) (body : List ℕ) (f : Found) → ¬ NoNotice event → place isEmpty (t .slots .all) ≡ f → Named (offered t reading body f)
-  offered-exact reading body Nothing own h = quiet-exact t _ event refl
-  offered-exact reading body (At i) own h = offered-on-exact reading body i (freePair t) own h
-
-outcome-exact : (t : Table) (whole : HasSlots t) (e : Event) → Named t whole e (outcomeOf t e)
-outcome-exact t whole (message label reading room octets) = head-exact t whole _ reading (λ none. none) octets (headOf octets)
-outcome-exact t whole (tick label reading room) = fired-exact t whole _ reading (λ none. none) (nextDue reading (t .slots .all))
-outcome-exact t whole (connect label reading room slot) = connected-exact t whole _ reading slot (holdAt t slot) refl tt
-outcome-exact t whole (clear label reading room slot cause) = cleared-exact t whole _ reading slot cause (holdAt t slot) refl
-outcome-exact t whole (offer label reading room body) = offered-exact t whole _ reading body (place isEmpty (t .slots .all)) (λ none. none) refl
-
-happens-exact : (t : Table) (whole : HasSlots t) (e : Event) → Named t whole e (happens t e)
-happens-exact t whole e =
-    rw (happens-unless t e)
-    (by-cond (Named t whole e) (eqb (refusalOf t e) 0) (outcomeOf t e) (refusedWith t (refusalOf t e)) (outcome-exact t whole e) (quiet-exact t t e refl))
+acts-exact : (t : Table) → HasSlots t → (e : Event) (reading : ℕ) (x : Change) → Acts t e x
+    → Exactly t (tableAfter t reading x) e (noticeOf x (flagsOf x (t .slots))) (flagsOf x (t .slots))
+acts-exact t whole e reading x keeps = quiet-exact t _ e (λ i. refl)
+acts-exact t whole e reading x (asks i c q f own) =
+    let at = placed isEmpty noSlot (t .slots .all) i f in
+    asked-exact t whole e i (liveSlot c q) (at .below) _ refl c q own (empty-at t i (at .passes)) refl
+acts-exact t whole e reading x (moves i c q r live other) =
+    moved-exact t whole e i (liveSlot c r) (live-within t i c q live) _ refl c q live r refl other
+acts-exact t whole e reading x (answers i c q live waiting own) =
+    answered-exact t whole e i (liveSlot c N10) (live-within t i c q live) _ refl c q live own waiting refl
+acts-exact t whole e reading x (ends i c q live own) = ended-exact t whole e i noSlot (live-within t i c q live) _ refl c q live own refl
+acts-exact t whole e reading x (loses i c q live own) = ended-exact t whole e i noSlot (live-within t i c q live) _ refl c q live own refl
+acts-exact t whole e reading x (restarts which own) = gone-exact t whole e reading which own
 
 pub flags-exact : (t : Table) (e : Event) → HasSlots t → FlagsExact t e
-flags-exact t e whole = let exact = happens-exact t whole e in record { names = exact .0; tells = exact .1 }
+flags-exact t e whole =
+    let exact =
+    by-event t e (λ (o : Outcome). Exactly t (o .answer .table) e (o .answer .notice) (o .answer .flags))
+    (λ n. quiet-exact t t e (λ i. refl))
+    (λ z x d. acts-exact t whole e (readingOf e) (x .change) (does-acts t e x d)) in
+    record { names = exact .0; tells = exact .1 }

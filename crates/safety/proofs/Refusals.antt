@@ -1,11 +1,9 @@
 -- The number that an event is refused with applies, and every number that applies reaches it.
---   commonOf, ownOf, refusalOf      the number, from 1 to 4 and behind them
---   or-else-zero, or-else-both      of two numbers one after the other
 --   Reaches, Given                  a number that is not 0 and at most k; a number that satisfies P where it is not 0
 --   applied, reaches
 -- Assumes nothing.
 use Prim.Native.Nat.{ℕ, _≤_, _<_}
-use mathlib.Core.Path.{_≡_, refl, sym, ap}
+use mathlib.Core.Path.{_≡_, refl, ap}
 use mathlib.Core.Logic.{_≢_}
 use mathlib.Core.Bool.{Bool, true, false, cond}
 use mathlib.Core.List.{List, [], _∷_}
@@ -17,50 +15,28 @@ use Rattle.traffic.specs.Traffic.{member}
 use Rattle.channels.specs.declared.Channel.{Channel}
 use Rattle.channels.specs.declared.Channel.the-variants as channel
 use Rattle.channels.proofs.Cases.{by-test}
-use Rattle.calls.specs.declared.Phase.{Phase}
-use Rattle.calls.specs.declared.Phase.the-variants.{N3, N6, N9, N10, N12}
+use Rattle.calls.specs.declared.State.{State}
+use Rattle.calls.specs.declared.State.the-variants.{N3, N6, N9, N10, N12}
 use Rattle.calls.specs.declared.Call.{Call}
 use Rattle.calls.specs.declared.Hold.{Hold}
 use Rattle.calls.specs.declared.Hold.the-variants.{Empty, Live}
 use Rattle.calls.specs.declared.Slot.{Slot}
 use Rattle.calls.specs.Calls.{noSlot, isEmpty}
+use Rattle.calls.specs.Timers.{largestReading}
+use Rattle.slots.specs.Slots.{slotCount, holdAt}
+use Rattle.replies.specs.Reply.{replyRoom, bodyRoom}
 use Rattle.first.specs.declared.Found.{Found}
 use Rattle.first.specs.declared.Found.the-variants.{Nothing, At}
 use Rattle.first.specs.First.{place}
 use Rattle.setup.specs.Offer.{offerFits}
-use Rattle.effects.specs.Effect.{slotCount}
 use Rattle.table.specs.declared.Table.{Table}
 use Rattle.table.specs.Effects.{freePair}
-use Rattle.refusals.specs.Refusals.{orElse, largestReading, commonRefusal, sizeRefusal, holdAt, notN3, unconnectable, inN12, unclearable, hostCauses, causeRefusal, bodyRefusal, slotRefusal, pairRefusal}
+use Rattle.refusals.specs.Refusals.{orElse, sizeRefusal, notN3, unconnectable, inN12, unclearable, hostCauses, causeRefusal, bodyRefusal, slotRefusal, pairRefusal}
 use Rattle.control.specs.Happens.{Event, message, tick, connect, clear, offer}
-use Rattle.safety.specs.Tables.{HasSlots, slotAt}
-use Rattle.safety.specs.FixedAnswers.{labelOf, readingOf, roomOf, Applies, small-room, wrong-label, too-large, too-early, empty-message, long-message, connect-no-slot, connect-empty, clear-no-slot, clear-empty, not-in-N3, in-N12, foreign-cause, long-body, unfit-body, no-empty-slot, no-free-pair}
+use Rattle.views.specs.Tables.{HasSlots, slotAt}
+use Rattle.views.specs.Effects.{labelOf, readingOf, roomOf, commonOf, ownOf, refusalOf}
+use Rattle.safety.specs.FixedAnswers.{Applies, small-room, wrong-label, too-large, too-early, empty-message, long-message, connect-no-slot, connect-empty, clear-no-slot, clear-empty, not-in-N3, in-N12, foreign-cause, long-body, unfit-body, no-empty-slot, no-free-pair}
 use Rattle.safety.proofs.Tables.{none-free, free-none, none-empty, empty-none}
-
-abbrev pub commonOf : Table → Event → ℕ
-commonOf t e = commonRefusal t (labelOf e) (readingOf e) (roomOf e)
-
--- what is asked of an event behind 1 to 4
-abbrev pub ownOf : Table → Event → ℕ
-ownOf t (message label reading room octets) = sizeRefusal octets
-ownOf t (tick label reading room) = 0
-ownOf t (connect label reading room slot) = unconnectable (holdAt t slot)
-ownOf t (clear label reading room slot cause) = orElse (unclearable (holdAt t slot)) (causeRefusal cause)
-ownOf t (offer label reading room body) = orElse (bodyRefusal body) (orElse (slotRefusal (place isEmpty (t .slots .all))) (pairRefusal (freePair t)))
-
-abbrev pub refusalOf : Table → Event → ℕ
-refusalOf t e = orElse (commonOf t e) (ownOf t e)
-
--- Numbers.
-
-pub or-else-zero : (n : ℕ) → orElse n 0 ≡ n
-or-else-zero n = by-test (eqb n 0) (λ e. rw e (sym (eqb-true n 0 e))) (λ e. rw e)
-
-pub or-else-both : (n m : ℕ) → orElse n m ≡ 0 → (n ≡ 0) × (m ≡ 0)
-or-else-both n m h =
-    by-test (eqb n 0)
-    (λ e. (eqb-true n 0 e, rw e at h))
-    (λ e. absurd (eqb-false n 0 e (rw e at h)))
 
 -- a number that is given and is not above k
 abbrev pub Reaches : ℕ → ℕ → Type 0
@@ -87,7 +63,7 @@ given-test P b n f = by-test b (λ e. rw e (λ h. f e)) (λ e. rw e (λ h. absur
 module _ (t : Table) (e : Event) where
   common-applied : Given (Applies t e) (commonOf t e)
   common-applied =
-      by-test (ltb (roomOf e) 1024)
+      by-test (ltb (roomOf e) replyRoom)
       (λ a. rw a (λ h. small-room e (ltb-true _ _ a)))
       (λ a. by-test (eqb (labelOf e) 1)
       (λ b. by-test (ltb largestReading (readingOf e))
@@ -97,7 +73,7 @@ module _ (t : Table) (e : Event) where
 
   common-high : commonOf t e ≤ 4
   common-high =
-      by-test (ltb (roomOf e) 1024)
+      by-test (ltb (roomOf e) replyRoom)
       (λ a. rw a (omega arith))
       (λ a. by-test (eqb (labelOf e) 1)
       (λ b. by-test (ltb largestReading (readingOf e))
@@ -111,18 +87,18 @@ module _ (t : Table) (e : Event) where
   own-reaches : (k : ℕ) → 4 ≤ k → Reaches k (ownOf t e) → Reaches k (refusalOf t e)
   own-reaches k h r = reaches-next k (commonOf t e) (ownOf t e) (omega (arith, common-high)) r
 
-  small-room-reaches : roomOf e < 1024 → Reaches 1 (commonOf t e)
+  small-room-reaches : roomOf e < replyRoom → Reaches 1 (commonOf t e)
   small-room-reaches h = rw (lt-ltb _ _ h) (omega arith)
 
   wrong-label-reaches : labelOf e ≢ 1 → Reaches 2 (commonOf t e)
   wrong-label-reaches h =
-      by-test (ltb (roomOf e) 1024)
+      by-test (ltb (roomOf e) replyRoom)
       (λ a. rw a (omega arith))
       (λ a. rw (a, ne-eqb _ _ h) (omega arith))
 
   pub too-large-reaches : largestReading < readingOf e → Reaches 3 (commonOf t e)
   too-large-reaches h =
-      by-test (ltb (roomOf e) 1024)
+      by-test (ltb (roomOf e) replyRoom)
       (λ a. rw a (omega arith))
       (λ a. by-test (eqb (labelOf e) 1)
       (λ b. rw (a, b, lt-ltb _ _ h) (omega arith))
@@ -130,7 +106,7 @@ module _ (t : Table) (e : Event) where
 
   pub too-early-reaches : readingOf e < t .last → Reaches 4 (commonOf t e)
   too-early-reaches h =
-      by-test (ltb (roomOf e) 1024)
+      by-test (ltb (roomOf e) replyRoom)
       (λ a. rw a (omega arith))
       (λ a. by-test (eqb (labelOf e) 1)
       (λ b. by-test (ltb largestReading (readingOf e))
@@ -162,46 +138,46 @@ empty-slot : (s : Slot) → s .hold ≡ Empty → s ≡ noSlot
 empty-slot s e = ap (λ (h : Hold). record { hold = h }) e
 
 module _ (t : Table) (label reading room slot : ℕ) where
-  N3-applied : (c : Call) (phase : Phase) → slotAt t slot .hold ≡ Live c → c .phase ≡ phase → Given (Applies t (connect label reading room slot)) (notN3 phase)
-  N3-applied c N3 h e g = absurd (g refl)
-  N3-applied c (N6 d) h e g = not-in-N3 label reading room slot c h (λ z. let w : _≡_ {A = ℕ} 0 1 = cc in omega arith)
-  N3-applied c (N9 d) h e g = not-in-N3 label reading room slot c h (λ z. let w : _≡_ {A = ℕ} 0 1 = cc in omega arith)
-  N3-applied c N10 h e g = not-in-N3 label reading room slot c h (λ z. let w : _≡_ {A = ℕ} 0 1 = cc in omega arith)
-  N3-applied c (N12 k) h e g = not-in-N3 label reading room slot c h (λ z. let w : _≡_ {A = ℕ} 0 1 = cc in omega arith)
+  N3-applied : (c : Call) (q : State) → slotAt t slot .hold ≡ Live c q → Given (Applies t (connect label reading room slot)) (notN3 q)
+  N3-applied c N3 h g = absurd (g refl)
+  N3-applied c (N6 d) h g = not-in-N3 label reading room slot c _ h (λ z. let w : _≡_ {A = ℕ} 0 1 = cc in omega arith)
+  N3-applied c (N9 d) h g = not-in-N3 label reading room slot c _ h (λ z. let w : _≡_ {A = ℕ} 0 1 = cc in omega arith)
+  N3-applied c N10 h g = not-in-N3 label reading room slot c _ h (λ z. let w : _≡_ {A = ℕ} 0 1 = cc in omega arith)
+  N3-applied c (N12 k d) h g = not-in-N3 label reading room slot c _ h (λ z. let w : _≡_ {A = ℕ} 0 1 = cc in omega arith)
 
   connect-applied : (k : Hold) → slotAt t slot .hold ≡ k → Given (Applies t (connect label reading room slot)) (unconnectable k)
   connect-applied Empty h g = connect-empty label reading room slot (empty-slot (slotAt t slot) h)
-  connect-applied (Live c) h g = N3-applied c (c .phase) h refl g
+  connect-applied (Live c q) h g = N3-applied c q h g
 
   module _ (cause : ℕ) where
-    N12-applied : (c : Call) (phase : Phase) → slotAt t slot .hold ≡ Live c → c .phase ≡ phase → Given (Applies t (clear label reading room slot cause)) (inN12 phase)
-    N12-applied c N3 h e g = absurd (g refl)
-    N12-applied c (N6 d) h e g = absurd (g refl)
-    N12-applied c (N9 d) h e g = absurd (g refl)
-    N12-applied c N10 h e g = absurd (g refl)
-    N12-applied c (N12 k) h e g = in-N12 label reading room slot cause c k h e
+    N12-applied : (c : Call) (q : State) → slotAt t slot .hold ≡ Live c q → Given (Applies t (clear label reading room slot cause)) (inN12 q)
+    N12-applied c N3 h g = absurd (g refl)
+    N12-applied c (N6 d) h g = absurd (g refl)
+    N12-applied c (N9 d) h g = absurd (g refl)
+    N12-applied c N10 h g = absurd (g refl)
+    N12-applied c (N12 k d) h g = in-N12 label reading room slot cause c k d h
 
     clear-applied : (k : Hold) → slotAt t slot .hold ≡ k → Given (Applies t (clear label reading room slot cause)) (unclearable k)
     clear-applied Empty h g = clear-empty label reading room slot cause (empty-slot (slotAt t slot) h)
-    clear-applied (Live c) h g = N12-applied c (c .phase) h refl g
+    clear-applied (Live c q) h g = N12-applied c q h g
 
-not-N3-reaches : (phase : Phase) → phase ≢ N3 → Reaches 7 (notN3 phase)
+not-N3-reaches : (q : State) → q ≢ N3 → Reaches 7 (notN3 q)
 not-N3-reaches N3 h = absurd (h refl)
 not-N3-reaches (N6 d) h = omega arith
 not-N3-reaches (N9 d) h = omega arith
 not-N3-reaches N10 h = omega arith
-not-N3-reaches (N12 k) h = omega arith
+not-N3-reaches (N12 k d) h = omega arith
 
-in-N12-high : (phase : Phase) → inN12 phase ≤ 7
+in-N12-high : (q : State) → inN12 q ≤ 7
 in-N12-high N3 = omega arith
 in-N12-high (N6 d) = omega arith
 in-N12-high (N9 d) = omega arith
 in-N12-high N10 = omega arith
-in-N12-high (N12 k) = omega arith
+in-N12-high (N12 k d) = omega arith
 
 unclearable-high : (h : Hold) → unclearable h ≤ 7
 unclearable-high Empty = omega arith
-unclearable-high (Live c) = in-N12-high (c .phase)
+unclearable-high (Live c q) = in-N12-high q
 
 cause-applied : (t : Table) (label reading room slot cause : ℕ) → Given (Applies t (clear label reading room slot cause)) (causeRefusal cause)
 cause-applied t label reading room slot cause =
@@ -211,21 +187,21 @@ cause-applied t label reading room slot cause =
 
 body-applied : (t : Table) (label reading room : ℕ) (body : List ℕ) → Given (Applies t (offer label reading room body)) (bodyRefusal body)
 body-applied t label reading room body =
-    by-test (ltb 512 (length body))
+    by-test (ltb bodyRoom (length body))
     (λ a. rw a (λ h. long-body label reading room body (ltb-true _ _ a)))
     (λ a. by-test (offerFits body) (λ b. rw (a, b) (λ h. absurd (h refl))) (λ b. rw (a, b) (λ h. unfit-body label reading room body b)))
 
 body-high : (body : List ℕ) → bodyRefusal body ≤ 10
 body-high body =
-    by-test (ltb 512 (length body))
+    by-test (ltb bodyRoom (length body))
     (λ a. rw a (omega arith))
     (λ a. by-test (offerFits body) (λ b. rw (a, b) (omega arith)) (λ b. rw (a, b) (omega arith)))
 
-long-body-reaches : (body : List ℕ) → 512 < length body → Reaches 10 (bodyRefusal body)
+long-body-reaches : (body : List ℕ) → bodyRoom < length body → Reaches 10 (bodyRefusal body)
 long-body-reaches body h = rw (lt-ltb _ _ h) (omega arith)
 
 unfit-body-reaches : (body : List ℕ) → offerFits body ≡ false → Reaches 10 (bodyRefusal body)
-unfit-body-reaches body h = by-test (ltb 512 (length body)) (λ a. rw a (omega arith)) (λ a. rw (a, h) (omega arith))
+unfit-body-reaches body h = by-test (ltb bodyRoom (length body)) (λ a. rw a (omega arith)) (λ a. rw (a, h) (omega arith))
 
 slot-high : (f : Found) → slotRefusal f ≤ 11
 slot-high Nothing = omega arith
@@ -245,10 +221,10 @@ module _ (t : Table) (whole : HasSlots t) (label reading room : ℕ) (body : Lis
 own-applied : (t : Table) (e : Event) → HasSlots t → Given (Applies t e) (ownOf t e)
 own-applied t (message label reading room octets) w = size-applied t label reading room octets
 own-applied t (tick label reading room) w = λ h. absurd (h refl)
-own-applied t (connect label reading room slot) w = connect-applied t label reading room slot (holdAt t slot) refl
+own-applied t (connect label reading room slot) w = connect-applied t label reading room slot (holdAt (t .slots .all) slot) refl
 own-applied t (clear label reading room slot cause) w =
-    given-or-else (Applies t (clear label reading room slot cause)) (unclearable (holdAt t slot)) (causeRefusal cause)
-    (clear-applied t label reading room slot cause (holdAt t slot) refl)
+    given-or-else (Applies t (clear label reading room slot cause)) (unclearable (holdAt (t .slots .all) slot)) (causeRefusal cause)
+    (clear-applied t label reading room slot cause (holdAt (t .slots .all) slot) refl)
     (cause-applied t label reading room slot cause)
 own-applied t (offer label reading room body) w =
     given-or-else (Applies t (offer label reading room body)) (bodyRefusal body) _
@@ -260,10 +236,10 @@ own-applied t (offer label reading room body) w =
 pub applied : (t : Table) (e : Event) → HasSlots t → refusalOf t e ≢ 0 → Applies t e (refusalOf t e)
 applied t e w = given-or-else (Applies t e) (commonOf t e) (ownOf t e) (common-applied t e) (own-applied t e w)
 
-past-slots : (t : Table) (slot : ℕ) → HasSlots t → slotCount ≤ slot → holdAt t slot ≡ Empty
+past-slots : (t : Table) (slot : ℕ) → HasSlots t → slotCount ≤ slot → holdAt (t .slots .all) slot ≡ Empty
 past-slots t slot w h = ap (λ (s : Slot). s .hold) (List·getD-eq-default (t .slots .all) noSlot {n = slot} (rw w h))
 
-empty-hold : (t : Table) (slot : ℕ) → slotAt t slot ≡ noSlot → holdAt t slot ≡ Empty
+empty-hold : (t : Table) (slot : ℕ) → slotAt t slot ≡ noSlot → holdAt (t .slots .all) slot ≡ Empty
 empty-hold t slot h = ap (λ (s : Slot). s .hold) h
 
 pub reaches : (t : Table) (e : Event) (k : ℕ) → HasSlots t → Applies t e k → Reaches k (refusalOf t e)
@@ -276,15 +252,15 @@ reaches t e k w (long-message label reading room m h) = own-reaches t e 5 (omega
 reaches t e k w (connect-no-slot label reading room slot h) = own-reaches t e 6 (omega arith) (rw (past-slots t slot w h) (omega arith))
 reaches t e k w (connect-empty label reading room slot h) = own-reaches t e 6 (omega arith) (rw (empty-hold t slot h) (omega arith))
 reaches t e k w (clear-no-slot label reading room slot cause h) =
-    own-reaches t e 6 (omega arith) (reaches-first 6 (unclearable (holdAt t slot)) (causeRefusal cause) (rw (past-slots t slot w h) (omega arith)))
+    own-reaches t e 6 (omega arith) (reaches-first 6 (unclearable (holdAt (t .slots .all) slot)) (causeRefusal cause) (rw (past-slots t slot w h) (omega arith)))
 reaches t e k w (clear-empty label reading room slot cause h) =
-    own-reaches t e 6 (omega arith) (reaches-first 6 (unclearable (holdAt t slot)) (causeRefusal cause) (rw (empty-hold t slot h) (omega arith)))
-reaches t e k w (not-in-N3 label reading room slot c h n) = own-reaches t e 7 (omega arith) (rw h (not-N3-reaches (c .phase) n))
-reaches t e k w (in-N12 label reading room slot cause c j h n) =
-    own-reaches t e 7 (omega arith) (reaches-first 7 (unclearable (holdAt t slot)) (causeRefusal cause) (rw (h, n) (omega arith)))
+    own-reaches t e 6 (omega arith) (reaches-first 6 (unclearable (holdAt (t .slots .all) slot)) (causeRefusal cause) (rw (empty-hold t slot h) (omega arith)))
+reaches t e k w (not-in-N3 label reading room slot c q h n) = own-reaches t e 7 (omega arith) (rw h (not-N3-reaches q n))
+reaches t e k w (in-N12 label reading room slot cause c j d h) =
+    own-reaches t e 7 (omega arith) (reaches-first 7 (unclearable (holdAt (t .slots .all) slot)) (causeRefusal cause) (rw h (omega arith)))
 reaches t e k w (foreign-cause label reading room slot cause h) =
     own-reaches t e 8 (omega arith)
-    (reaches-next 8 (unclearable (holdAt t slot)) (causeRefusal cause) (omega (arith, unclearable-high (holdAt t slot))) (rw h (omega arith)))
+    (reaches-next 8 (unclearable (holdAt (t .slots .all) slot)) (causeRefusal cause) (omega (arith, unclearable-high (holdAt (t .slots .all) slot))) (rw h (omega arith)))
 reaches t e k w (long-body label reading room body h) =
     own-reaches t e 10 (omega arith) (reaches-first 10 (bodyRefusal body) _ (long-body-reaches body h))
 reaches t e k w (unfit-body label reading room body h) =

@@ -7,7 +7,7 @@
 --   nothing-named, named-nothing    no call is found if and only if there is no such call
 -- Assumes nothing.
 use Prim.Native.Nat.{ℕ, _<_}
-use mathlib.Core.Path.{_≡_, refl, sym, ap, _∙_}
+use mathlib.Core.Path.{_≡_, refl, ap}
 use mathlib.Core.Logic.{inl, inr, ⊎-elim}
 use mathlib.Core.Bool.{Bool, true, false, or-true}
 use native.Mathlib.Omega.{arith}
@@ -15,86 +15,85 @@ use lib.Dec.{eqb}
 use lib.ListN.{length}
 use borrow.Author.Tests.{eqb-true, eq-eqb}
 use Rattle.channels.specs.Some.{someOf}
-use Rattle.channels.specs.Channels.{among}
+use Rattle.pairs.specs.Pairs.{inPairs}
 use Rattle.channels.specs.declared.Channel.the-variants as channel
 use Rattle.channels.proofs.Cases.{by-test, clash, both}
 use Rattle.channels.proofs.Some.{some-at, some-none}
-use Rattle.channels.proofs.Lowest as lowest
+use Rattle.search.proofs.Free as free
+use Rattle.calls.specs.declared.State.{State}
 use Rattle.calls.specs.declared.Call.{Call}
 use Rattle.calls.specs.declared.Hold.{Hold}
 use Rattle.calls.specs.declared.Hold.the-variants.{Empty, Live}
-use Rattle.calls.specs.Calls.{noSlot, isEmpty, emptyHold, onPair, holdsPair, named, isCall}
+use Rattle.calls.specs.Calls.{noSlot, isEmpty, emptyHold, pairHeld, holdsPair, refersTo, isCall}
 use Rattle.calls.proofs.Calls.{call-named}
 use Rattle.first.specs.declared.Found.the-variants.{Nothing}
 use Rattle.first.specs.First.{place}
 use Rattle.first.proofs.First.{unplaced, some-nothing}
-use Rattle.slots.specs.Slots.{heldOf}
-use Rattle.slots.proofs.Held.{held-holds}
 use Rattle.table.specs.declared.Table.{Table}
 use Rattle.table.specs.Effects.{freePair}
-use Rattle.safety.specs.Tables.{HasSlots, slotAt, HasCall, NoneEmpty, OnPair, Holds, InDoubt, NoneFree}
+use Rattle.views.specs.Tables.{HasSlots, slotAt, HasCall, NoneEmpty, OnPair, Holds, InDoubt, NoneFree}
 use Rattle.safety.specs.NoPair.{NoSuchCall}
 use Rattle.safety.proofs.Lists.{some-found, passes-within}
 use Rattle.safety.proofs.Cases.{beq-same, either}
 
 -- an empty slot holds no call
-pub not-live : {P : Type 0} (c : Call) → Empty ≡ Live c → P
-not-live c e = let z : _≡_ {A = ℕ} 0 1 = cc in absurd (omega arith)
+pub not-live : {P : Type 0} (c : Call) (q : State) → Empty ≡ Live c q → P
+not-live c q e = let z : _≡_ {A = ℕ} 0 1 = cc in absurd (omega arith)
 
-live-not-empty : (h : Hold) (c : Call) → h ≡ Live c → emptyHold h ≡ false
-live-not-empty Empty c e = not-live c e
-live-not-empty (Live d) c e = refl
+live-not-empty : (h : Hold) (c : Call) (q : State) → h ≡ Live c q → emptyHold h ≡ false
+live-not-empty Empty c q e = not-live c q e
+live-not-empty (Live d r) c q e = refl
 
-not-empty-live : (h : Hold) → emptyHold h ≡ false → (c : Call) × (h ≡ Live c)
+not-empty-live : (h : Hold) → emptyHold h ≡ false → (c : Call) × ((q : State) × (h ≡ Live c q))
 not-empty-live Empty e = clash refl e
-not-empty-live (Live c) e = (c, refl)
+not-empty-live (Live c q) e = (c, (q, refl))
 
-pub on-pair : (p v : ℕ) (c : Call) → onPair p v (Live c) ≡ true → OnPair p v c
-on-pair p v c e =
+pub on-pair : (p v : ℕ) (c : Call) (q : State) → pairHeld p v (Live c q) ≡ true → OnPair p v c
+on-pair p v c q e =
     let a = both (eqb (c .vpci) p) _ e in
     record { vpci = eqb-true _ _ (a .0); vci = eqb-true _ _ (a .1) }
 
-pub pair-on : (p v : ℕ) (c : Call) → OnPair p v c → onPair p v (Live c) ≡ true
-pair-on p v c o = rw (eq-eqb _ _ (o .vpci), eq-eqb _ _ (o .vci))
+pub pair-on : (p v : ℕ) (c : Call) (q : State) → OnPair p v c → pairHeld p v (Live c q) ≡ true
+pair-on p v c q o = rw (eq-eqb _ _ (o .vpci), eq-eqb _ _ (o .vci))
 
-hold-on : (p v : ℕ) (h : Hold) → onPair p v h ≡ true → (c : Call) × ((h ≡ Live c) × OnPair p v c)
+pub hold-on : (p v : ℕ) (h : Hold) → pairHeld p v h ≡ true → (c : Call) × ((q : State) × ((h ≡ Live c q) × OnPair p v c))
 hold-on p v Empty e = clash e refl
-hold-on p v (Live c) e = (c, (refl, on-pair p v c e))
+hold-on p v (Live c q) e = (c, (q, (refl, on-pair p v c q e)))
 
 module _ (t : Table) where
-  pub holds-at : (i p v : ℕ) (c : Call) → HasCall t i c → OnPair p v c → holdsPair p v (slotAt t i) ≡ true
-  holds-at i p v c h o = rw h (pair-on p v c o)
+  pub holds-at : (i p v : ℕ) (c : Call) (q : State) → HasCall t i c q → OnPair p v c → holdsPair p v (slotAt t i) ≡ true
+  holds-at i p v c q h o = rw h (pair-on p v c q o)
 
-  pub live-within : (i : ℕ) (c : Call) → HasCall t i c → i < length (t .slots .all)
-  live-within i c h =
+  pub live-within : (i : ℕ) (c : Call) (q : State) → HasCall t i c q → i < length (t .slots .all)
+  live-within i c q h =
       passes-within (holdsPair (c .vpci) (c .vci)) noSlot (t .slots .all) i refl
-      (holds-at i (c .vpci) (c .vci) c h (record { vpci = refl; vci = refl }))
+      (holds-at i (c .vpci) (c .vci) c q h (record { vpci = refl; vci = refl }))
 
   pub held-some : (p v : ℕ) → Holds t p v → someOf (holdsPair p v) (t .slots .all) ≡ true
   held-some p v h =
-      let at = holds-at (h .slot) p v (h .call) (h .live) (h .pair) in
+      let at = holds-at (h .slot) p v (h .call) (h .state) (h .live) (h .pair) in
       some-at (holdsPair p v) noSlot (t .slots .all) (h .slot) (passes-within (holdsPair p v) noSlot (t .slots .all) (h .slot) refl at) at
 
   pub some-held : (p v : ℕ) → someOf (holdsPair p v) (t .slots .all) ≡ true → Holds t p v
   some-held p v e =
       let f = some-found (holdsPair p v) noSlot (t .slots .all) e in
       let h = hold-on p v (slotAt t (f .0) .hold) (f .1 .1) in
-      record { slot = f .0; call = h .0; live = h .1 .0; pair = h .1 .1 }
+      record { slot = f .0; call = h .0; state = h .1 .0; live = h .1 .1 .0; pair = h .1 .1 .1 }
 
   pub none-free : freePair t ≡ channel.None → NoneFree t
   none-free e p v permitted =
-      either (among p v (heldOf (t .slots .all) .entries)) (among p v (t .doubts .entries))
-      (lowest.none-free (heldOf (t .slots .all) .entries) (t .doubts .entries) (t .pool) e p v permitted)
-      (λ y. inl (some-held p v (sym (held-holds p v (t .slots .all)) ∙ y)))
+      either (someOf (holdsPair p v) (t .slots .all)) (inPairs (t .doubts) p v)
+      (free.none-free (t .slots .all) (t .doubts) (t .pool) e p v permitted)
+      (λ y. inl (some-held p v y))
       (λ y. inr y)
 
   pub free-none : NoneFree t → freePair t ≡ channel.None
   free-none h =
-      lowest.none-left (heldOf (t .slots .all) .entries) (t .doubts .entries) (t .pool)
+      free.none-left (t .slots .all) (t .doubts) (t .pool)
       (λ p v permitted.
       ⊎-elim
-      (λ (y : Holds t p v). rw (held-holds p v (t .slots .all) ∙ held-some p v y))
-      (λ (y : InDoubt t p v). rw y (or-true (among p v (heldOf (t .slots .all) .entries))))
+      (λ (y : Holds t p v). rw (held-some p v y))
+      (λ (y : InDoubt t p v). rw y (or-true (someOf (holdsPair p v) (t .slots .all))))
       (h p v permitted))
 
 module _ (t : Table) (whole : HasSlots t) where
@@ -106,20 +105,20 @@ module _ (t : Table) (whole : HasSlots t) where
   pub empty-none : NoneEmpty t → place isEmpty (t .slots .all) ≡ Nothing
   empty-none h =
       some-nothing isEmpty (t .slots .all)
-      (some-none isEmpty noSlot (t .slots .all) (λ i below. let l = h i (rw whole at below) in live-not-empty (slotAt t i .hold) (l .0) (l .1)))
+      (some-none isEmpty noSlot (t .slots .all) (λ i below. let l = h i (rw whole at below) in live-not-empty (slotAt t i .hold) (l .0) (l .1 .0) (l .1 .1)))
 
 pub empty-at : (t : Table) (i : ℕ) → isEmpty (slotAt t i) ≡ true → slotAt t i ≡ noSlot
 empty-at t i e = ap (λ (h : Hold). record { hold = h }) (hold-empty (slotAt t i .hold) e)
   where
     hold-empty : (h : Hold) → emptyHold h ≡ true → h ≡ Empty
     hold-empty Empty e = refl
-    hold-empty (Live c) e = clash e refl
+    hold-empty (Live c q) e = clash e refl
 
 -- "no such call", as the search says it
 pub nothing-named : (t : Table) (network : Bool) (r : ℕ) → place (isCall network r) (t .slots .all) ≡ Nothing → NoSuchCall t network r
-nothing-named t network r e i c h side value =
+nothing-named t network r e i c q h side value =
     let at : isCall network r (slotAt t i) ≡ true = rw (h, side, eq-eqb _ _ value, beq-same network) in
-    clash (some-at (isCall network r) noSlot (t .slots .all) i (live-within t i c h) at) ((unplaced (isCall network r) noSlot (t .slots .all) e) .some)
+    clash (some-at (isCall network r) noSlot (t .slots .all) i (live-within t i c q h) at) ((unplaced (isCall network r) noSlot (t .slots .all) e) .some)
 
 pub named-nothing : (t : Table) (network : Bool) (r : ℕ) → NoSuchCall t network r → place (isCall network r) (t .slots .all) ≡ Nothing
 named-nothing t network r none =
@@ -127,6 +126,6 @@ named-nothing t network r none =
     (some-none (isCall network r) noSlot (t .slots .all)
     (λ i below. by-test (isCall network r (slotAt t i)) (λ y. live-named i (slotAt t i .hold) refl y) (λ n. n)))
   where
-    live-named : {P : Type 0} (i : ℕ) (h : Hold) → slotAt t i .hold ≡ h → named network r h ≡ true → P
+    live-named : {P : Type 0} (i : ℕ) (h : Hold) → slotAt t i .hold ≡ h → refersTo network r h ≡ true → P
     live-named i Empty g y = clash y refl
-    live-named i (Live c) g y = let k = call-named network r c y in absurd (none i c g (k .side) (k .value))
+    live-named i (Live c q) g y = let k = call-named network r c q y in absurd (none i c q g (k .side) (k .value))

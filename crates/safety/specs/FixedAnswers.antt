@@ -1,7 +1,6 @@
 -- Demand 1: "Any octets, any clock reading and any host command get a fixed answer. A reading with the wrong label, too large, or
 -- earlier than the last accepted one is refused by its number. A refusal sends nothing and changes neither the call table nor
 -- one octet of the lent reply room."
---   labelOf, readingOf, roomOf     what every event but start carries
 --   Applies                        the table of refusal numbers: number n applies to an event
 --   Unchanged, Stored              what a refused event answers and leaves; what an accepted one stores
 --   FixedAnswer                    the demand, of an event on a table
@@ -19,48 +18,30 @@ use Rattle.traffic.specs.Traffic.{member}
 use Rattle.channels.specs.declared.Range.{Range}
 use Rattle.provisioning.specs.Provisioning.{rangeAt, singleAt, poolOf}
 use Rattle.calls.specs.declared.Clearing.{Clearing}
-use Rattle.calls.specs.declared.Phase.the-variants.{N3, N12}
+use Rattle.calls.specs.declared.State.{State}
+use Rattle.calls.specs.declared.State.the-variants.{N3, N12}
 use Rattle.calls.specs.declared.Call.{Call}
 use Rattle.calls.specs.Calls.{noSlot}
+use Rattle.calls.specs.Timers.{largestReading}
+use Rattle.slots.specs.Slots.{slotCount}
+use Rattle.replies.specs.Reply.{replyRoom, bodyRoom}
 use Rattle.setup.specs.Offer.{offerFits}
-use Rattle.effects.specs.Effect.{slotCount}
 use Rattle.table.specs.declared.Table.{Table}
 use Rattle.refusals.specs.Refusals.{hostCauses}
 use Rattle.outcome.specs.Outcome.{Outcome}
 use Rattle.control.specs.Events.{startOf}
-use Rattle.control.specs.Happens.{Event, message, tick, connect, clear, offer, happens}
-use Rattle.safety.specs.Tables.{slotAt, HasCall, NoneEmpty, NoneFree}
-
--- "All but start carry a clock label, a reading and a reply room."
-abbrev pub labelOf : Event → ℕ
-labelOf (message label reading room octets) = label
-labelOf (tick label reading room) = label
-labelOf (connect label reading room slot) = label
-labelOf (clear label reading room slot cause) = label
-labelOf (offer label reading room body) = label
-
-abbrev pub readingOf : Event → ℕ
-readingOf (message label reading room octets) = reading
-readingOf (tick label reading room) = reading
-readingOf (connect label reading room slot) = reading
-readingOf (clear label reading room slot cause) = reading
-readingOf (offer label reading room body) = reading
-
-abbrev pub roomOf : Event → ℕ
-roomOf (message label reading room octets) = room
-roomOf (tick label reading room) = room
-roomOf (connect label reading room slot) = room
-roomOf (clear label reading room slot cause) = room
-roomOf (offer label reading room body) = room
+use Rattle.control.specs.Happens.{Event, message, connect, clear, offer, happens}
+use Rattle.views.specs.Tables.{slotAt, HasCall, NoneEmpty, NoneFree}
+use Rattle.views.specs.Effects.{labelOf, readingOf, roomOf}
 
 -- | No | When |
 pub data Applies (t : Table) : Event → ℕ → Type 0 where
   -- "1 reply room under 1,024 octets"
-  small-room : (e : Event) → roomOf e < 1024 → Applies t e 1
+  small-room : (e : Event) → roomOf e < replyRoom → Applies t e 1
   -- "2 clock label not 1"
   wrong-label : (e : Event) → labelOf e ≢ 1 → Applies t e 2
   -- "3 reading above 4,000,000,000,000"
-  too-large : (e : Event) → 4000000000000 < readingOf e → Applies t e 3
+  too-large : (e : Event) → largestReading < readingOf e → Applies t e 3
   -- "4 reading below the last accepted"
   too-early : (e : Event) → readingOf e < t .last → Applies t e 4
   -- "5 message empty or over 1,024 octets"
@@ -72,13 +53,13 @@ pub data Applies (t : Table) : Event → ℕ → Type 0 where
   clear-no-slot : (label reading room slot cause : ℕ) → slotCount ≤ slot → Applies t (clear label reading room slot cause) 6
   clear-empty : (label reading room slot cause : ℕ) → slotAt t slot ≡ noSlot → Applies t (clear label reading room slot cause) 6
   -- "7 wrong state (connect: not N3; clear: N12)"
-  not-in-N3 : (label reading room slot : ℕ) (c : Call) → HasCall t slot c → c .phase ≢ N3 → Applies t (connect label reading room slot) 7
-  in-N12 : (label reading room slot cause : ℕ) (c : Call) (k : Clearing) → HasCall t slot c → c .phase ≡ N12 k
+  not-in-N3 : (label reading room slot : ℕ) (c : Call) (q : State) → HasCall t slot c q → q ≢ N3 → Applies t (connect label reading room slot) 7
+  in-N12 : (label reading room slot cause : ℕ) (c : Call) (k : Clearing) (d : ℕ) → HasCall t slot c (N12 k d)
       → Applies t (clear label reading room slot cause) 7
   -- "8 cause not in the host's list"
   foreign-cause : (label reading room slot cause : ℕ) → member cause hostCauses ≡ false → Applies t (clear label reading room slot cause) 8
   -- "10 offer body over 512 octets or not as below"
-  long-body : (label reading room : ℕ) (body : List ℕ) → 512 < length body → Applies t (offer label reading room body) 10
+  long-body : (label reading room : ℕ) (body : List ℕ) → bodyRoom < length body → Applies t (offer label reading room body) 10
   unfit-body : (label reading room : ℕ) (body : List ℕ) → offerFits body ≡ false → Applies t (offer label reading room body) 10
   -- "11 offer, no empty slot"
   no-empty-slot : (label reading room : ℕ) (body : List ℕ) → NoneEmpty t → Applies t (offer label reading room body) 11

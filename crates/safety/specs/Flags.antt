@@ -12,14 +12,15 @@ use mathlib.Core.Path.{_≡_}
 use mathlib.Core.Logic.{_≢_}
 use mathlib.Core.Bool.{Bool, true, false}
 use lib.ListN.{length, getD}
-use Rattle.calls.specs.declared.Phase.the-variants.{N10}
+use Rattle.calls.specs.declared.State.{State}
+use Rattle.calls.specs.declared.State.the-variants.{N10}
 use Rattle.calls.specs.declared.Call.{Call}
-use Rattle.calls.specs.Calls.{moved, noSlot}
+use Rattle.calls.specs.Calls.{noSlot}
 use Rattle.slots.specs.declared.Flags.{Flags}
-use Rattle.effects.specs.Effect.{slotCount}
+use Rattle.slots.specs.Slots.{slotCount}
 use Rattle.table.specs.declared.Table.{Table}
 use Rattle.control.specs.Happens.{Event, message, tick, connect, clear, offer, happens}
-use Rattle.safety.specs.Tables.{slotAt, HasCall}
+use Rattle.views.specs.Tables.{slotAt, HasCall}
 
 abbrev pub flagOf : Flags → ℕ → Bool
 flagOf f i = getD (f .on) i false
@@ -29,20 +30,23 @@ flagOf f i = getD (f .on) i false
 -- a call was put into the empty slot i
 pub record CallAsked (t u : Table) (i : ℕ) : Type 0 where
   pub call : Call
+  pub state : State
   pub before : slotAt t i ≡ noSlot
-  pub after : HasCall u i call
+  pub after : HasCall u i call state
 
 -- the call of slot i went to N10
 pub record CallAnswered (t u : Table) (i : ℕ) : Type 0 where
   pub call : Call
-  pub before : HasCall t i call
-  pub waiting : call .phase ≢ N10
-  pub after : HasCall u i (moved call N10)
+  pub state : State
+  pub before : HasCall t i call state
+  pub waiting : state ≢ N10
+  pub after : HasCall u i call N10
 
 -- slot i held a call and is empty
 pub record CallGone (t u : Table) (i : ℕ) : Type 0 where
   pub call : Call
-  pub before : HasCall t i call
+  pub state : State
+  pub before : HasCall t i call state
   pub after : slotAt u i ≡ noSlot
 
 pub record OneFlag (f : Flags) (Meant : ℕ → Type 0) : Type 0 where

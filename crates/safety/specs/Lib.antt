@@ -1,5 +1,4 @@
 pub mod SmallTable
-pub mod Tables
 pub mod FixedAnswers
 pub mod Sound
 pub mod NoPair

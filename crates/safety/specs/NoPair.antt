@@ -13,11 +13,13 @@ use mathlib.Core.Logic.{_≢_}
 use mathlib.Core.Bool.{Bool, true, false}
 use mathlib.Core.List.{List}
 use lib.ListN.{length, getD}
+use Rattle.calls.specs.declared.State.{State}
 use Rattle.calls.specs.declared.Call.{Call}
 use Rattle.calls.specs.Calls.{noSlot}
 use Rattle.header.specs.Header.{headerIn, headOf}
 use Rattle.replies.specs.declared.Reply.{Reply}
 use Rattle.replies.specs.declared.Reply.the-variants.{ReleaseCompleteWith}
+use Rattle.replies.specs.declared.Outgoing.the-variants as outgoing
 use Rattle.replies.specs.Reply.{replyOctets}
 use Rattle.setup.specs.declared.Admission.the-variants.{Admitted}
 use Rattle.setup.specs.Setup.{admission}
@@ -25,11 +27,11 @@ use Rattle.verdicts.specs.Verdict.{plainCause}
 use Rattle.table.specs.declared.Table.{Table}
 use Rattle.control.specs.Events.{heardBy, messageOf}
 use Rattle.control.specs.Happens.{Event, message, happens}
-use Rattle.safety.specs.Tables.{slotAt, HasCall, NoneFree}
+use Rattle.views.specs.Tables.{slotAt, HasCall, NoneFree}
 
 -- "Flag 0 received names a user-originated call, flag 1 a network-originated one."
 abbrev pub NoSuchCall : Table → Bool → ℕ → Type 0
-NoSuchCall t network r = (i : ℕ) (c : Call) → HasCall t i c → c .network ≡ network → c .reference ≢ r
+NoSuchCall t network r = (i : ℕ) (c : Call) (q : State) → HasCall t i c q → c .network ≡ network → c .reference ≢ r
 
 pub record PassedAllChecks (t : Table) (label reading room : ℕ) (m : List ℕ) : Type 0 where
   -- no refusal number applies
@@ -69,8 +71,8 @@ noPairOctets r = replyOctets true r noPair
 
 -- of a message on any table: the decision, and the octets
 pub record NoPairExactly (t : Table) (label reading room : ℕ) (m : List ℕ) : Type 0 where
-  pub decided : PassedAllChecks t label reading room m → NoneFree t → heardBy t reading m (headOf m) .reply ≡ noPair
-  pub decided-only : messageOf t label reading room m .answer .refusal ≡ 0 → heardBy t reading m (headOf m) .reply ≡ noPair
+  pub decided : PassedAllChecks t label reading room m → NoneFree t → heardBy t reading m (headOf m) .outgoing ≡ outgoing.Reply noPair
+  pub decided-only : messageOf t label reading room m .answer .refusal ≡ 0 → heardBy t reading m (headOf m) .outgoing ≡ outgoing.Reply noPair
       → PassedAllChecks t label reading room m × NoneFree t
   pub sent : PassedAllChecks t label reading room m → NoneFree t → messageOf t label reading room m .reply ≡ noPairOctets (headerIn m .reference)
   pub sent-only : Says45 (messageOf t label reading room m .reply) → PassedAllChecks t label reading room m × NoneFree t

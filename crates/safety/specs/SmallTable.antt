@@ -7,7 +7,7 @@
 use Prim.Native.Nat.{ℕ}
 use mathlib.Core.Path.{_≡_}
 use mathlib.Core.List.{List, [], _∷_}
-use Rattle.effects.specs.Effect.{flagsAt}
+use Rattle.effects.specs.Change.{flagsAt}
 use Rattle.table.specs.declared.Table.{Table}
 use Rattle.outcome.specs.Outcome.{Outcome}
 use Rattle.control.specs.Events.{startOf, messageOf, tickOf, offerOf}

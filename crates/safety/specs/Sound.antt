@@ -1,6 +1,6 @@
 -- Demand 2: "No two live calls hold one VPCI/VCI pair, every assigned VCI lies in 32 to 65535", and what else is so of every table
 -- that is reached.
---   PhaseSound      a state with the side that began the call: its deadline, its cause
+--   StateSound      a state with the side that began the call: its deadline, its cause
 --   CallSound       a live call: its pair is permitted, its reference is not the global one
 --   Sound           a table
 --   InOctets, AllInOctets, CarriedOctets     events, and a beginning, that carry octets, for the width of what is sent again
@@ -10,32 +10,33 @@ use mathlib.Core.Path.{_≡_}
 use mathlib.Core.Logic.{_≢_}
 use mathlib.Core.Bool.{Bool, true, false}
 use mathlib.Core.List.{List, [], _∷_}
-use lib.ListN.{length, getD}
+use lib.ListN.{getD}
 use Rattle.traffic.specs.Traffic.{member}
 use Rattle.channels.specs.Channels.{permitted}
-use Rattle.doubts.specs.Doubts.{doubtRoom, tidy}
+use Rattle.pairs.specs.Pairs.{Tidy}
 use Rattle.calls.specs.declared.Clearing.{Clearing}
-use Rattle.calls.specs.declared.Phase.{Phase}
-use Rattle.calls.specs.declared.Phase.the-variants.{N3, N6, N9, N10, N12}
+use Rattle.calls.specs.declared.State.{State}
+use Rattle.calls.specs.declared.State.the-variants.{N3, N6, N9, N10, N12}
 use Rattle.calls.specs.declared.Call.{Call}
+use Rattle.calls.specs.Timers.{largestReading, t303, t308, t310}
 use Rattle.table.specs.declared.Table.{Table}
 use Rattle.refusals.specs.Refusals.{hostCauses}
 use Rattle.control.specs.Happens.{Event, message, tick, connect, clear, offer}
-use Rattle.reload.specs.Reached.{Reached, BegunInOctets}
-use Rattle.safety.specs.Tables.{HasSlots, HasCall, Holds, InDoubt}
+use Rattle.reached.specs.Reached.{Reached, BegunInOctets}
+use Rattle.views.specs.Tables.{HasSlots, HasCall, Holds, InDoubt}
 
 -- N3 is the user's call, N6 and N9 are the network's. A deadline is not further past the last reading than its timer is long:
 -- "T303 4,000 ms", "T310 10,000", "T308 30,000". N12 has a cause of the host, or the network's call has "102, diagnostic "310""
-pub data PhaseSound (last : ℕ) : Bool → Phase → Type 0 where
-  in-N3 : PhaseSound last false N3
-  in-N6 : (deadline : ℕ) → deadline ≤ last + 4000 → PhaseSound last true (N6 deadline)
-  in-N9 : (deadline : ℕ) → deadline ≤ last + 10000 → PhaseSound last true (N9 deadline)
-  in-N10 : (network : Bool) → PhaseSound last network N10
-  by-host : (network : Bool) (k : Clearing) → k .deadline ≤ last + 30000 → member (k .cause) hostCauses ≡ true → k .expired ≡ false
-      → PhaseSound last network (N12 k)
-  by-timer : (k : Clearing) → k .deadline ≤ last + 30000 → k .cause ≡ 102 → k .expired ≡ true → PhaseSound last true (N12 k)
+pub data StateSound (last : ℕ) : Bool → State → Type 0 where
+  in-N3 : StateSound last false N3
+  in-N6 : (deadline : ℕ) → deadline ≤ last + t303 → StateSound last true (N6 deadline)
+  in-N9 : (deadline : ℕ) → deadline ≤ last + t310 → StateSound last true (N9 deadline)
+  in-N10 : (network : Bool) → StateSound last network N10
+  by-host : (network : Bool) (k : Clearing) (deadline : ℕ) → deadline ≤ last + t308 → member (k .cause) hostCauses ≡ true → k .expired ≡ false
+      → StateSound last network (N12 k deadline)
+  by-timer : (k : Clearing) (deadline : ℕ) → deadline ≤ last + t308 → k .cause ≡ 102 → k .expired ≡ true → StateSound last true (N12 k deadline)
 
-pub record CallSound (t : Table) (c : Call) : Type 0 where
+pub record CallSound (t : Table) (c : Call) (q : State) : Type 0 where
   -- "A pair is permitted if it is in a range and not permanent."
   pub pair-permitted : permitted (t .pool) (c .vpci) (c .vci) ≡ true
   -- "VPCI 0 to 255; VCI 32 to 65535"
@@ -44,23 +45,22 @@ pub record CallSound (t : Table) (c : Call) : Type 0 where
   pub vci-high : c .vci ≤ 65535
   -- "Value 0 is global."
   pub not-global : c .reference ≢ 0
-  pub phase-sound : PhaseSound (t .last) (c .network) (c .phase)
+  pub state-sound : StateSound (t .last) (c .network) q
 
 pub record Sound (t : Table) : Type 0 where
   pub has-slots : HasSlots t
-  pub last-high : t .last ≤ 4000000000000
+  pub last-high : t .last ≤ largestReading
   -- each permitted pair keeps the limits
   pub numbers : (p v : ℕ) → permitted (t .pool) p v ≡ true → (p ≤ 255) × (32 ≤ v) × (v ≤ 65535)
-  pub calls-sound : (i : ℕ) (c : Call) → HasCall t i c → CallSound t c
+  pub calls-sound : (i : ℕ) (c : Call) (q : State) → HasCall t i c q → CallSound t c q
   -- "No two live calls hold one VPCI/VCI pair"
-  pub pair-once : (i j : ℕ) (c d : Call) → HasCall t i c → HasCall t j d → c .vpci ≡ d .vpci → c .vci ≡ d .vci → i ≡ j
+  pub pair-once : (i j : ℕ) (c d : Call) (q r : State) → HasCall t i c q → HasCall t j d r → c .vpci ≡ d .vpci → c .vci ≡ d .vci → i ≡ j
   -- document 02, R-2: "At most 64 pairs are in doubt", ascending; each is permitted, and no live call holds it
-  pub doubts-room : length (t .doubts .entries) ≡ doubtRoom
-  pub doubts-tidy : tidy (t .doubts .entries) ≡ true
+  pub doubts-tidy : Tidy (t .doubts)
   pub doubt-permitted : (p v : ℕ) → InDoubt t p v → permitted (t .pool) p v ≡ true
   pub doubt-not-held : (p v : ℕ) → InDoubt t p v → Holds t p v → ⊥
   -- no two live calls have one flagged reference
-  pub reference-once : (i j : ℕ) (c d : Call) → HasCall t i c → HasCall t j d → c .network ≡ d .network → c .reference ≡ d .reference → i ≡ j
+  pub reference-once : (i j : ℕ) (c d : Call) (q r : State) → HasCall t i c q → HasCall t j d r → c .network ≡ d .network → c .reference ≡ d .reference → i ≡ j
 
 -- the numbers of a message, and of an offer's body, are octets
 abbrev pub InOctets : Event → Type 0
@@ -80,4 +80,4 @@ CarriedOctets t r = BegunInOctets (r .beginning) × AllInOctets (r .events)
 
 -- "23-bit reference": each live call's
 abbrev pub ReferencesFit : Table → Type 0
-ReferencesFit t = (i : ℕ) (c : Call) → HasCall t i c → c .reference < 8388608
+ReferencesFit t = (i : ℕ) (c : Call) (q : State) → HasCall t i c q → c .reference < 8388608

@@ -1,11 +1,11 @@
 // What demands 1 and 2 say of every reached table, the slips, and the small proved table: definitions and laws, and no code.
 //   specs/SmallTable.antt       P1 to P8, one statement
-//   specs/Tables.antt           what the demands say of a table
 //   specs/FixedAnswers.antt     demand 1: the table of refusal numbers, what a refusal leaves, what start accepts
 //   specs/Sound.antt            what is so of every table that is reached: no pair twice, each permitted, each state with its deadline
 //   specs/NoPair.antt           demand 2: cause 45 exactly
 //   specs/Flags.antt            each notice with its flags, "naming exactly the slots meant"
 //   specs/Slips.antt            the slips, each shut out
 //   proofs/                     one file for each of these; crate `demands` gathers what they prove
+//   proofs/Acts.antt            what an event does to the slots, seven ways, off which proofs/Flags.antt and proofs/Gone.antt read
 //   proofs/Sound.antt           `reached-sound`, from which saving and reading back start; proofs/References.antt the width of a reference
 // Assumes nothing.

@@ -5,9 +5,10 @@
 -- Lists are of any length. Assumes nothing.
 use Prim.Native.Nat.{ℕ, _+_}
 use mathlib.Core.List.{List, [], _∷_, _++_}
+use Rattle.pairs.specs.Pairs.{listed}
 use Rattle.calls.specs.declared.Slot.{Slot}
 use Rattle.table.specs.declared.Table.{Table}
-use Rattle.fields.specs.Fields.{eight, field, rangeOctets, entryOctets, holdField}
+use Rattle.fields.specs.Fields.{four, eight, field, rangeOctets, entryOctets, holdField}
 
 abbrev pub joined : {A : Type 0} → (A → List ℕ) → List A → List ℕ
 joined f [] = []
@@ -24,4 +25,4 @@ abbrev pub formOf : Table → List ℕ
 formOf t =
     field 1 (joined rangeOctets (t .pool .ranges))
     ++ (field 2 (joined entryOctets (t .pool .permanents))
-    ++ (field 3 (eight (t .last)) ++ (field 5 (joined entryOctets (t .doubts .entries)) ++ callFields 0 (t .slots .all))))
+    ++ (field 3 (eight (t .last)) ++ (field 5 (joined four (listed (t .doubts))) ++ callFields 0 (t .slots .all))))

@@ -4,14 +4,16 @@
 //   save         the form at the front of a room
 // `put_form` asks for room; nothing else public has a `requires`. Assumes nothing.
 use channels::Pool;
-use doubts::Doubts;
+use pairs::Pairs;
+use slots::SLOTS;
 use slots::Slots;
 use table::Table;
 ghost use mathlib.Core.Path.{_≡_};
 ghost use Prim.Native.Nat.{_+_, _≤_};
 ghost use lib.ListN.{length};
 ghost use Rattle.octets.specs.Octets.{Wrote, front};
-ghost use Rattle.fields.specs.Fields.{eight, field, rangeOctets, entryOctets};
+ghost use Rattle.pairs.specs.Pairs.{listed};
+ghost use Rattle.fields.specs.Fields.{four, eight, field, rangeOctets, entryOctets};
 ghost use Rattle.saved.specs.Form.{joined, callFields, formOf};
 ghost use Rattle.saved.specs.Saving.{savedOf, savedIn};
 
@@ -55,17 +57,17 @@ fn put_permanents(room: &mut [u8], at: usize, pool: Pool) -> usize
 }
 
 // The pairs in doubt, one behind the other.
-fn put_doubts(room: &mut [u8], at: usize, doubts: Doubts) -> usize
+fn put_doubts(room: &mut [u8], at: usize, doubts: Pairs) -> usize
     requires { ⌜ at + 256 ≤ length (now room) ⌝ }
-    ensures { λ r. ⌜ Wrote (now (room .entry)) at (joined entryOctets (doubts .entries)) (now (room .exit)) r ⌝ }
+    ensures { λ r. ⌜ Wrote (now (room .entry)) at (joined four (listed doubts)) (now (room .exit)) r ⌝ }
     ensures short { λ r. ⌜ r ≤ at + 256 ⌝ }
 {
+    let n = doubts.size();
     let mut next = at;
     let mut i: usize = 0;
-    while i < 64 {
-        let entry = doubts.entries[i];
-        let channel = entry.channel;
-        next = fields::put_channel(room, next, channel);
+    while i < n {
+        let number = doubts.numbers[i];
+        next = fields::put_four(room, next, number);
         i += 1;
     }
     next
@@ -103,9 +105,9 @@ fn put_reading_field(room: &mut [u8], at: usize, last: u64) -> usize
 }
 
 // The field of the pairs in doubt.
-fn put_doubt_field(room: &mut [u8], at: usize, doubts: Doubts) -> usize
+fn put_doubt_field(room: &mut [u8], at: usize, doubts: Pairs) -> usize
     requires { ⌜ at + 259 ≤ length (now room) ⌝ }
-    ensures { λ r. ⌜ Wrote (now (room .entry)) at (field 5 (joined entryOctets (doubts .entries))) (now (room .exit)) r ⌝ }
+    ensures { λ r. ⌜ Wrote (now (room .entry)) at (field 5 (joined four (listed doubts))) (now (room .exit)) r ⌝ }
     ensures short { λ r. ⌜ r ≤ at + 259 ⌝ }
 {
     let mut contents = [0u8; 256];
@@ -121,7 +123,7 @@ fn put_calls(room: &mut [u8], at: usize, slots: Slots) -> usize
 {
     let mut next = at;
     let mut i: usize = 0;
-    while i < 32 {
+    while i < SLOTS {
         let slot = slots.all[i];
         let hold = slot.hold;
         next = fields::put_hold(room, next, i as u8, hold);

@@ -1,25 +1,33 @@
 -- Among more VCIs than there are pairs, one is free.
---   hits          how many of n VCIs from v a test names
---   crowd         a list of fewer than n pairs does not have each of n VCIs
+--   crowd         where fewer than n pairs are held, in doubt or permanent, not each of n VCIs is taken
 -- Over lists of any length. Assumes nothing.
-use Prim.Native.Nat.{ℕ, zero, suc, _+_, _≤_, _<_}
+use Prim.Native.Nat.{ℕ, zero, suc, _+_, _/_, _%_, _≤_, _<_, zero-le}
 use mathlib.Core.Path.{_≡_, refl}
-use mathlib.Core.Bool.{Bool, true, false, _||_}
+use mathlib.Core.Bool.{Bool, true, false, _&&_, _||_}
 use mathlib.Core.List.{List, [], _∷_}
 use native.Mathlib.Omega.{arith}
 use lib.Dec.{eqb}
 use lib.ListN.{length}
 use borrow.Author.Tests.{eqb-true, ne-eqb}
+use Rattle.channels.specs.Some.{someOf}
 use Rattle.channels.specs.Channels.{isPair, isEntry, among}
 use Rattle.channels.specs.declared.Channel.{Channel}
 use Rattle.channels.specs.declared.Channel.the-variants.{None, Pair}
 use Rattle.channels.specs.declared.Entry.{Entry}
-use Rattle.channels.proofs.Cases.{by-test, both}
+use Rattle.channels.proofs.Cases.{by-test}
+use Rattle.pairs.specs.Pairs.{isNumber, listed, inPairs}
+use Rattle.pairs.specs.declared.Pairs.{Pairs}
+use Rattle.calls.specs.Calls.{pairHeld, holdsPair}
+use Rattle.calls.specs.declared.Hold.{Hold}
+use Rattle.calls.specs.declared.Hold.the-variants.{Empty, Live}
+use Rattle.calls.specs.declared.Slot.{Slot}
+use Rattle.search.specs.Search.{taken}
 
 abbrev one : Bool → ℕ
 one true = 1
 one false = 0
 
+-- how many of n VCIs from v a test names
 abbrev hits : (ℕ → Bool) → ℕ → ℕ → ℕ
 hits t zero v = 0
 hits t (suc n) v = one (t v) + hits t n (v + 1)
@@ -49,27 +57,47 @@ hits-either a b (suc n) v =
     omega arith
 
 -- a pair is the pair of one VCI at most
-hits-pair : (p : ℕ) (c : Channel) (n v : ℕ) → hits (λ w. isPair p w c) n v ≤ 1
-hits-pair p None n v = let none = hits-none (λ w. isPair p w None) n v (λ w k. refl) in omega arith
-hits-pair p (Pair q u) zero v = omega arith
-hits-pair p (Pair q u) (suc n) v =
-    by-test (isPair p v (Pair q u))
+hits-once : (u n v : ℕ) → hits (eqb u) n v ≤ 1
+hits-once u zero v = omega arith
+hits-once u (suc n) v =
+    by-test (eqb u v)
     (λ here.
-    let same = eqb-true u v (both (eqb q p) (eqb u v) here .1) in
-    let none = hits-none (λ w. isPair p w (Pair q u)) n (v + 1) (λ w k. by-test (eqb q p) (λ e. rw e (ne-eqb u w (λ d. omega arith))) (λ e. rw e)) in
+    let same = eqb-true u v here in
+    let none = hits-none (eqb u) n (v + 1) (λ w k. ne-eqb u w (λ d. omega arith)) in
     rw (here, none) (omega arith))
-    (λ away. let rest = hits-pair p (Pair q u) n (v + 1) in rw away (omega arith))
+    (λ away. let rest = hits-once u n (v + 1) in rw away (omega arith))
 
-hits-among : (p : ℕ) (es : List Entry) (n v : ℕ) → hits (λ w. among p w es) n v ≤ length es
-hits-among p [] n v = let none = hits-none (λ w. among p w []) n v (λ w k. refl) in omega arith
-hits-among p (e ∷ es) n v =
-    let first = hits-pair p (e .channel) n v in
-    let rest = hits-among p es n v in
-    let sum = hits-either (λ w. isEntry p w e) (λ w. among p w es) n v in
+hits-no : (n v : ℕ) → hits (λ w. false) n v ≤ 1
+hits-no n v = let none = hits-none (λ w. false) n v (λ w k. refl) in omega arith
+
+hits-same : (a : Bool) (u n v : ℕ) → hits (λ w. a && eqb u w) n v ≤ 1
+hits-same true u n v = hits-once u n v
+hits-same false u n v = hits-no n v
+
+hits-some : {A : Type 0} (t : ℕ → A → Bool) (n v : ℕ) → ((x : A) → hits (λ w. t w x) n v ≤ 1) → (xs : List A) → hits (λ w. someOf (t w) xs) n v ≤ length xs
+hits-some t n v each [] = let none = hits-none (λ w. false) n v (λ w k. refl) in omega arith
+hits-some t n v each (x ∷ xs) =
+    let first = each x in
+    let rest = hits-some t n v each xs in
+    let sum = hits-either (λ w. t w x) (λ w. someOf (t w) xs) n v in
     omega arith
 
-pub crowd : (p : ℕ) (es : List Entry) (n v : ℕ) → length es < n → ((w : ℕ) → v ≤ w → w < v + n → among p w es ≡ true) → ⊥
-crowd p es n v few all =
-    let bound = hits-among p es n v in
-    let full = hits-all (λ w. among p w es) n v all in
-    omega arith
+module _ (p n v : ℕ) where
+  hits-channel : (c : Channel) → hits (λ w. isPair p w c) n v ≤ 1
+  hits-channel None = hits-no n v
+  hits-channel (Pair q u) = hits-same (eqb q p) u n v
+
+  hits-hold : (h : Hold) → hits (λ w. pairHeld p w h) n v ≤ 1
+  hits-hold Empty = hits-no n v
+  hits-hold (Live c q) = hits-same (eqb (c .vpci) p) (c .vci) n v
+
+  pub crowd : (ss : List Slot) (ds : Pairs) (es : List Entry) → length ss + (length (listed ds) + length es) < n
+      → ((w : ℕ) → v ≤ w → w < v + n → taken ss ds es p w ≡ true) → ⊥
+  crowd ss ds es few all =
+      let held = hits-some (λ w. holdsPair p w) n v (λ s. hits-hold (s .hold)) ss in
+      let doubts = hits-some (λ w. isNumber p w) n v (λ m. hits-same (eqb (m / 65536) p) (m % 65536) n v) (listed ds) in
+      let permanents = hits-some (λ w. isEntry p w) n v (λ e. hits-channel (e .channel)) es in
+      let two = hits-either (λ w. inPairs ds p w) (λ w. among p w es) n v in
+      let three = hits-either (λ w. someOf (holdsPair p w) ss) (λ w. inPairs ds p w || among p w es) n v in
+      let full = hits-all (taken ss ds es p) n v all in
+      omega arith

@@ -1,5 +1,9 @@
+pub mod Free
+pub mod Once
+pub mod Marked
+pub mod Pass
+pub mod Together
+pub mod Used
 pub mod Crowd
 pub mod Near
-pub mod Numbers
 pub mod Walked
-pub mod Once

@@ -1,31 +1,42 @@
--- How far the walk over the ranges has come: the ranges passed have no free pair.
---   Walked            after i ranges and so many reads: the lowest free pair is that of the ranges left, and the reads left are those for them
---   walked-none       none is passed
---   walked-skip       the range at hand has no VCI
---   walked-on         it has no free pair
---   walked-found      it has one: the first that is not taken
---   walked-end        none is left
--- For any test t, any list of pairs and any list of ranges. Assumes nothing.
-use Prim.Native.Nat.{ℕ, zero, suc, _+_, _-_, _≤_, _<_}
-use mathlib.Core.Path.{_≡_, refl, ap, _∙_}
+-- The walk over ranges and VCIs.
+--   lowest-on, lowest-at        the range at hand has no free pair; it has one, the first that is not taken
+--   few-pairs                   there are fewer pairs than a range has marks
+--   passed-one                  the marks passed in a range are set: one more
+--   Full                        all marks of a range are set
+--   full-next                   of one range more
+--   walked                      the ranges passed have no free pair
+--   walked-found, walked-end    the range at hand has one; no range is left
+--   unused-answer, answer       what `find_free` gives where no range has a VCI; and where one has
+-- Over lists of any length. Assumes nothing.
+use Prim.Native.Nat.{ℕ, zero, suc, _+_, _-_, _*_, _≤_, _<_}
+use mathlib.Core.Path.{_≡_, refl, sym, ap, _∙_}
+use mathlib.Core.Logic.{_≢_}
 use mathlib.Core.Bool.{Bool, true, false}
 use mathlib.Core.List.{List}
 use native.Mathlib.Omega.{arith}
 use native.Mathlib.Numerals.{add-one}
 use lib.Dec.{eqb}
-use lib.ListN.{length, drop, getD, drop-of-length-le}
-use lib.Seq.{drop-cons}
-use borrow.Author.Tests.{eqb-true, eqb-false, le-leb, lt-leb}
-use Rattle.channels.specs.Channels.{scan, lowest}
+use lib.ListN.{length, drop, getD, replicate}
+use borrow.Author.Tests.{eqb-true, eqb-false, eq-eqb, ne-eqb}
+use Rattle.channels.specs.Channels.{rangeCount, permanentCount, scan, lowest}
 use Rattle.channels.specs.declared.Channel.{Channel}
 use Rattle.channels.specs.declared.Channel.the-variants.{None, Pair}
 use Rattle.channels.specs.declared.Entry.{Entry}
 use Rattle.channels.specs.declared.Range.{Range}
+use Rattle.channels.specs.declared.Pool.{Pool}
 use Rattle.channels.proofs.Cases.{by-test}
 use Rattle.channels.proofs.Lowest.{none-scan}
-use Rattle.channels.proofs.Walk.{zeroRange, lowest-here, lowest-end}
-use Rattle.marks.specs.Marking.{marksOf}
-use Rattle.search.specs.Search.{beyond, readsIn}
+use Rattle.channels.proofs.Walk.{lowest-here}
+use Rattle.pairs.specs.Pairs.{room, listed}
+use Rattle.pairs.specs.declared.Pairs.{Pairs}
+use Rattle.pairs.proofs.Places.{span-size}
+use Rattle.calls.specs.declared.Slot.{Slot}
+use Rattle.slots.specs.Slots.{slotCount}
+use Rattle.search.specs.Search.{taken, pairsThere, searched}
+use Rattle.search.specs.Marks.{near, allMarks, used, rangeAt, Added, nearLast}
+use Rattle.search.specs.declared.Finding.{Finding}
+use Rattle.search.proofs.Near.{near-within, near-taken, near-passed}
+use Rattle.search.proofs.Used.{used-none, used-spanning}
 
 module _ (t : ℕ → ℕ → Bool) (q : ℕ) (rest : Channel) where
   scan-first : (n w v : ℕ) → w ≤ v → v < w + n → ((u : ℕ) → w ≤ u → u < v → t q u ≡ true) → t q v ≡ false → scan t q n w rest ≡ Pair q v
@@ -35,59 +46,81 @@ module _ (t : ℕ → ℕ → Bool) (q : ℕ) (rest : Channel) where
       (λ e. rw (eqb-true w v e, free))
       (λ e. let past = eqb-false w v e in rw (all w (omega arith) (omega arith)) (scan-first n (w + 1) v (omega arith) (omega arith) (λ u from to. all u (omega arith) to) free))
 
-module _ (t : ℕ → ℕ → Bool) (es : List Entry) (rs : List Range) (i reads : ℕ) where
-  pub record Walked : Type 0 where
-    pub same : lowest t rs ≡ lowest t (drop i rs)
-    pub count : readsIn t es rs ≡ reads + readsIn t es (drop i rs)
+module _ (t : ℕ → ℕ → Bool) (rs : List Range) (k : ℕ) where
+  lowest-on : k < length rs
+      → ((w : ℕ) → rangeAt rs k .first ≤ w → w < rangeAt rs k .first + ((rangeAt rs k .last + 1) - rangeAt rs k .first) → t (rangeAt rs k .vpci) w ≡ true)
+      → lowest t rs ≡ lowest t (drop k rs) → lowest t rs ≡ lowest t (drop (k + 1) rs)
+  lowest-on h all left =
+      let r = rangeAt rs k in
+      left ∙ lowest-here t rs k h ∙ none-scan t (r .vpci) (lowest t (drop (k + 1) rs)) ((r .last + 1) - r .first) (r .first) all
 
-  abbrev at : Range
-  at = getD rs i zeroRange
+  lowest-at : (v : ℕ) → k < length rs → rangeAt rs k .first ≤ v → v ≤ rangeAt rs k .last
+      → ((w : ℕ) → rangeAt rs k .first ≤ w → w < v → t (rangeAt rs k .vpci) w ≡ true) → t (rangeAt rs k .vpci) v ≡ false
+      → lowest t rs ≡ lowest t (drop k rs) → lowest t rs ≡ Pair (rangeAt rs k .vpci) v
+  lowest-at v h low high all free left =
+      let r = rangeAt rs k in
+      left ∙ lowest-here t rs k h ∙ scan-first t (r .vpci) (lowest t (drop (k + 1) rs)) ((r .last + 1) - r .first) (r .first) v low (omega arith) all free
 
-  abbrev scanned : Channel → Channel
-  scanned rest = scan t (at .vpci) ((at .last + 1) - at .first) (at .first) rest
+pub few-pairs : (ss : List Slot) (ds : Pairs) (es : List Entry) → length ss ≡ slotCount → length (ds .numbers) ≡ room → length es ≡ permanentCount
+    → length ss + (length (listed ds) + length es) < near
+few-pairs ss ds es s d e =
+    let span = span-size ds d in
+    let long = span .long in
+    let most = span .most in
+    omega arith
 
-  reads-here : i < length rs → at .first ≤ at .last → readsIn t es (drop i rs) ≡ marksOf at es .reads + beyond (scanned None) (readsIn t es (drop (i + 1) rs))
-  reads-here h used = rw (drop-cons rs i zeroRange h, add-one i, le-leb (at .first) (at .last) used)
+pub passed-one : (on : List Bool) (k first v : ℕ) → first ≤ v → ((o : ℕ) → o < v - first → getD on (k * near + o) false ≡ true)
+    → getD on (k * near + (v - first)) false ≡ true → (o : ℕ) → o < (v + 1) - first → getD on (k * near + o) false ≡ true
+passed-one on k first v low all here o h =
+    by-test (eqb o (v - first)) (λ e. rw (eqb-true o (v - first) e) here) (λ e. let past = eqb-false o (v - first) e in all o (omega arith))
 
-  reads-skip : i < length rs → at .last < at .first → readsIn t es (drop i rs) ≡ readsIn t es (drop (i + 1) rs)
-  reads-skip h unused = rw (drop-cons rs i zeroRange h, add-one i, lt-leb (at .first) (at .last) unused)
+pub record Full (rs : List Range) (on : List Bool) (k : ℕ) : Type 0 where
+  pub fits : nearLast (rangeAt rs k) ≤ 65535
+  pub set : (o : ℕ) → rangeAt rs k .first + o ≤ nearLast (rangeAt rs k) → getD on (k * near + o) false ≡ true
 
-  pub walked-found : (n v : ℕ) → n ≡ marksOf at es .reads → i < length rs → at .first ≤ v → v ≤ at .last
-      → ((w : ℕ) → at .first ≤ w → w < v → t (at .vpci) w ≡ true) → t (at .vpci) v ≡ false
-      → Walked → (lowest t rs ≡ Pair (at .vpci) v) × (readsIn t es rs ≡ reads + n)
-  walked-found n v e h low high all free l =
-      let found : (rest : Channel) → scanned rest ≡ Pair (at .vpci) v =
-      λ rest. scan-first t (at .vpci) rest ((at .last + 1) - at .first) (at .first) v low (omega arith) all free in
-      let here : readsIn t es (drop i rs) ≡ n = reads-here h (omega arith) ∙ rw (found None) (omega arith) in
-      (l .same ∙ lowest-here t rs i h ∙ found (lowest t (drop (i + 1) rs)), l .count ∙ ap (λ (k : ℕ). reads + k) here)
+pub full-next : (rs : List Range) (on : List Bool) (k : ℕ) → ((j : ℕ) → j < k → Full rs on j) → Full rs on k → (j : ℕ) → j < k + 1 → Full rs on j
+full-next rs on k all here j h = by-test (eqb j k) (λ e. rw (eqb-true j k e) here) (λ e. let past = eqb-false j k e in all j (omega arith))
 
-  pub walked-end : length rs ≤ i → Walked → (lowest t rs ≡ None) × (readsIn t es rs ≡ reads)
-  walked-end h l =
-      let none : readsIn t es (drop i rs) ≡ 0 = rw (drop-of-length-le rs {i = i} h) in
-      (l .same ∙ lowest-end t rs i h, l .count ∙ rw none (omega arith))
+module _ (ss : List Slot) (ds : Pairs) (es : List Entry) (rs : List Range) (n : ℕ) (on : List Bool) (few : length ss + (length (listed ds) + length es) < near)
+    (most : n ≤ rangeCount) (long : length rs ≡ rangeCount) (a : Added rs n (taken ss ds es) (replicate allMarks false) on) where
+  pub walked : (k : ℕ) → k ≤ n → ((j : ℕ) → j < k → Full rs on j) → lowest (taken ss ds es) rs ≡ lowest (taken ss ds es) (drop k rs)
+  walked zero h full = refl
+  walked (suc k) h full =
+      let here = full k (omega arith) in
+      let r = rangeAt rs k in
+      let fits = here .fits in
+      let end : nearLast r < nearLast r + 1 = omega arith in
+      rw (sym (add-one k))
+      (lowest-on (taken ss ds es) rs k (omega arith)
+      (near-passed ss ds es r few refl end
+      (λ w low high.
+      let place : r .first + (w - r .first) ≡ w = omega arith in
+      sym (near-taken (taken ss ds es) rs n k on a (omega arith) most low (omega arith) refl fits) ∙ here .set (w - r .first) (omega arith)))
+      (walked k (omega arith) (λ j l. full j (omega arith))))
 
-module _ (t : ℕ → ℕ → Bool) (es : List Entry) (rs : List Range) where
-  pub walked-none : Walked t es rs 0 0
-  walked-none = record { same = refl; count = omega arith }
+  pub walked-found : (k : ℕ) {v last : ℕ} → k < n → ((j : ℕ) → j < k → Full rs on j) → last ≡ nearLast (rangeAt rs k) → last ≤ 65535
+      → rangeAt rs k .first ≤ v → v ≤ last → ((o : ℕ) → o < v - rangeAt rs k .first → getD on (k * near + o) false ≡ true)
+      → getD on (k * near + (v - rangeAt rs k .first)) false ≡ false → Pair (rangeAt rs k .vpci) v ≡ lowest (taken ss ds es) rs
+  walked-found k {v} {last} h full at fits low high before free =
+      let r = rangeAt rs k in
+      let mark : (w : ℕ) → r .first ≤ w → w ≤ v → getD on (k * near + (w - r .first)) false ≡ taken ss ds es (r .vpci) w =
+      λ w from to. near-taken (taken ss ds es) rs n k on a h most from (omega arith) at fits in
+      sym (lowest-at (taken ss ds es) rs k v (omega arith) low (near-within r high at)
+      (λ w from to. sym (mark w from (omega arith)) ∙ before (w - r .first) (omega arith))
+      (sym (mark v low (omega arith)) ∙ free) (walked k (omega arith) full))
 
-  module _ (i reads : ℕ) where
-    pub walked-skip : i < length rs → at t es rs i reads .last < at t es rs i reads .first → Walked t es rs i reads → Walked t es rs (i + 1) reads
-    walked-skip h unused l =
-        let r = getD rs i zeroRange in
-        let none : (r .last + 1) - r .first ≡ 0 = omega arith in
-        record {
-          same = l .same ∙ lowest-here t rs i h ∙ rw none;
-          count = l .count ∙ ap (λ (n : ℕ). reads + n) (reads-skip t es rs i reads h unused);
-        }
+  pub walked-end : {k : ℕ} → n ≡ used rs → k ≤ n → n ≤ k → ((j : ℕ) → j < k → Full rs on j) → None ≡ lowest (taken ss ds es) rs
+  walked-end {k} e h end full =
+      let last : k ≡ used rs = omega arith in
+      sym (walked k h full ∙ ap (λ (i : ℕ). lowest (taken ss ds es) (drop i rs)) last ∙ used-none (taken ss ds es) rs)
 
-    pub walked-on : (n : ℕ) → n ≡ marksOf (at t es rs i reads) es .reads → i < length rs → at t es rs i reads .first ≤ at t es rs i reads .last
-        → ((w : ℕ) → at t es rs i reads .first ≤ w → w < at t es rs i reads .first + ((at t es rs i reads .last + 1) - at t es rs i reads .first) → t (at t es rs i reads .vpci) w ≡ true)
-        → Walked t es rs i reads → Walked t es rs (i + 1) (reads + n)
-    walked-on n e h used all l =
-        let r = getD rs i zeroRange in
-        let passed : (rest : Channel) → scanned t es rs i reads rest ≡ rest = λ rest. none-scan t (r .vpci) rest ((r .last + 1) - r .first) (r .first) all in
-        let next : readsIn t es (drop i rs) ≡ n + readsIn t es (drop (i + 1) rs) = reads-here t es rs i reads h used ∙ rw (passed None, e) in
-        record {
-          same = l .same ∙ lowest-here t rs i h ∙ passed (lowest t (drop (i + 1) rs));
-          count = l .count ∙ rw next (omega arith);
-        }
+module _ (ss : List Slot) (ds : Pairs) (pool : Pool) where
+  pub unused-answer : 0 ≡ used (pool .ranges) → _≡_ {A = Finding} (record { found = None; reads = 0 }) (searched ss ds pool)
+  unused-answer e =
+      let t = taken ss ds (pool .permanents) in
+      let none : lowest t (pool .ranges) ≡ None = ap (λ (i : ℕ). lowest t (drop i (pool .ranges))) e ∙ used-none t (pool .ranges) in
+      rw (none, used-spanning (pool .ranges), eq-eqb (used (pool .ranges)) 0 (sym e))
+
+  pub answer : {c : Channel} {n reads : ℕ} → n ≡ used (pool .ranges) → n ≢ 0 → c ≡ lowest (taken ss ds (pool .permanents)) (pool .ranges)
+      → reads ≡ pairsThere ss ds (pool .permanents) → _≡_ {A = Finding} (record { found = c; reads = reads }) (searched ss ds pool)
+  answer e some found count = rw (found, count, used-spanning (pool .ranges), ne-eqb (used (pool .ranges)) 0 (λ z. some (e ∙ z)))

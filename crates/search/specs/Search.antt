@@ -1,52 +1,61 @@
--- What one search reads, and what it finds (document 02, R-3): "let one search read each held, doubtful or permanent pair at most once for each range".
---   nearLast                the last VCI of a range that has a mark
+-- What is free, and what one search reads and finds (document 02, R-2 and R-3).
+--   taken                   a pair that is not to be assigned
+--   howMany                 how many elements of a list pass a test
+--   hasPair, pairsThere     if an entry is a pair; how many pairs are held, in doubt or permanent
 --   spans, spanning         if a range has a VCI, and how many of a list have one
---   beyond, readsIn         how many pairs are read for a list of ranges
 --   searched                the pair that is found, and the count of pairs read to find it
 --   AtMostOnce              what is proved of the count
 -- Lists are of any length. Assumes nothing.
-use Prim.Native.Nat.{ℕ, _+_, _-_, _*_, _≤_}
-use mathlib.Core.Bool.{Bool, cond}
+use Prim.Native.Nat.{ℕ, _+_, _*_, _≤_}
+use mathlib.Core.Bool.{Bool, cond, not, _||_}
 use mathlib.Core.List.{List, [], _∷_}
-use lib.Dec.{leb, ltb}
-use lib.ListN.{length}
-use Rattle.channels.specs.Channels.{taken, scan, lowest}
-use Rattle.channels.specs.declared.Channel.{Channel}
-use Rattle.channels.specs.declared.Channel.the-variants.{None, Pair}
+use lib.Dec.{eqb, leb}
+use Rattle.channels.specs.Some.{someOf}
+use Rattle.channels.specs.Channels.{among, lowest}
+use Rattle.channels.specs.Order.{isNone}
 use Rattle.channels.specs.declared.Entry.{Entry}
 use Rattle.channels.specs.declared.Range.{Range}
 use Rattle.channels.specs.declared.Pool.{Pool}
-use Rattle.marks.specs.Marking.{pairsOf, marksOf}
+use Rattle.pairs.specs.Pairs.{inPairs, size}
+use Rattle.pairs.specs.declared.Pairs.{Pairs}
+use Rattle.calls.specs.Calls.{isLive, holdsPair}
+use Rattle.calls.specs.declared.Slot.{Slot}
 use Rattle.search.specs.declared.Finding.{Finding}
 
-abbrev pub nearLast : Range → ℕ
-nearLast r = cond (ltb (r .first + 104) (r .last)) (r .first + 104) (r .last)
+-- ""free" now means neither held nor in doubt", of permitted pairs: those that a live call holds, that are in doubt, or that are permanent, are taken
+abbrev pub taken : List Slot → Pairs → List Entry → ℕ → ℕ → Bool
+taken ss ds permanents p v = someOf (holdsPair p v) ss || (inPairs ds p v || among p v permanents)
 
--- a range that is in no use has no VCI, and no pair is read for it
+abbrev pub howMany : {A : Type 0} → (A → Bool) → List A → ℕ
+howMany p [] = 0
+howMany p (x ∷ xs) = cond (p x) 1 0 + howMany p xs
+
+-- "each held, doubtful or permanent pair": those that there are
+abbrev pub hasPair : Entry → Bool
+hasPair e = not (isNone e)
+
+abbrev pub pairsThere : List Slot → Pairs → List Entry → ℕ
+pairsThere ss ds permanents = howMany isLive ss + (size ds + howMany hasPair permanents)
+
+-- a range that is in no use has no VCI
 abbrev pub spans : Range → Bool
 spans r = leb (r .first) (r .last)
 
 abbrev pub spanning : List Range → ℕ
-spanning [] = 0
-spanning (r ∷ rs) = cond (spans r) (1 + spanning rs) (spanning rs)
+spanning rs = howMany spans rs
 
--- the pairs read for a list of ranges: those for the marks of the first, and, if it has no free pair, those for the ranges behind it
-abbrev pub beyond : Channel → ℕ → ℕ
-beyond None n = n
-beyond (Pair p v) n = 0
-
-abbrev pub readsIn : (ℕ → ℕ → Bool) → List Entry → List Range → ℕ
-readsIn t es [] = 0
-readsIn t es (r ∷ rs) =
-    cond (spans r) (marksOf r es .reads + beyond (scan t (r .vpci) ((r .last + 1) - r .first) (r .first) None) (readsIn t es rs)) (readsIn t es rs)
-
-abbrev pub searched : List Entry → List Entry → Pool → Finding
-searched held doubts pool =
+-- "lowest free permitted pair by VPCI and then VCI", and "a count, beside the answer, stepped at each read": each pair that there is is read once, and
+-- none where no range has a VCI
+abbrev pub searched : List Slot → Pairs → Pool → Finding
+searched ss ds pool =
     record {
-      found = lowest (taken held doubts (pool .permanents)) (pool .ranges);
-      reads = readsIn (taken held doubts (pool .permanents)) (pairsOf held doubts (pool .permanents)) (pool .ranges);
+      found = lowest (taken ss ds (pool .permanents)) (pool .ranges);
+      reads = cond (eqb (spanning (pool .ranges)) 0) 0 (pairsThere ss ds (pool .permanents));
     }
 
--- "at most once for each range": for every table, the count is at most one for each place and each range that has a VCI
+-- "let one search read each held, doubtful or permanent pair at most once for each range": for every table, the count is at most one for each pair
+-- that there is, and at most one for each pair and each range that has a VCI
 abbrev pub AtMostOnce : Type 0
-AtMostOnce = (held doubts : List Entry) (pool : Pool) → searched held doubts pool .reads ≤ spanning (pool .ranges) * length (pairsOf held doubts (pool .permanents))
+AtMostOnce = (ss : List Slot) (ds : Pairs) (pool : Pool)
+    → (searched ss ds pool .reads ≤ pairsThere ss ds (pool .permanents))
+    × (searched ss ds pool .reads ≤ spanning (pool .ranges) * pairsThere ss ds (pool .permanents))

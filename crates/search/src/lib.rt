@@ -1,22 +1,175 @@
 // The search for the lowest free pair, and a count of the pairs that it reads.
 //   Finding, find_free     the lowest free permitted pair by VPCI and then VCI, and how many pairs were read to find it
-//   lowest_free            the pair alone
-// Nothing here has a `requires`. Assumes nothing.
+//   ranges_used            how many ranges there are up to the last that has a VCI
+//   mark_in                sets the mark of a pair in one range
+//   mark_pair              a pair that was read: the count is stepped, and its marks are set; mark_number: by its number
+//   mark_slots, mark_permanents, mark_doubts     hand each pair that is there to `mark_pair`; mark_pairs: all three
+//   near_last              the last VCI of a range that has a mark
+// One mark stands for one of the NEAR first VCIs of a range: if its pair is taken. Those of range k begin at k times NEAR.
+// `find_free` has no `requires`; the others ask for room for all marks, and for a count that is not near its end.
+// Assumes nothing.
+use calls::Hold;
 use channels::Channel;
-use channels::Held;
+use channels::PERMANENTS;
 use channels::Pool;
+use channels::RANGES;
 use channels::Range;
-use doubts::Doubts;
-use marks::read_marks;
+use pairs::Pairs;
+use pairs::number;
+use slots::SLOTS;
+use slots::Slots;
 ghost use mathlib.Core.Path.{_≡_};
-ghost use Prim.Native.Nat.{_≤_};
-ghost use Rattle.channels.specs.Channels.{taken, lowest};
-ghost use Rattle.search.specs.Search.{nearLast, searched};
+ghost use mathlib.Core.Bool.{_&&_};
+ghost use Prim.Native.Nat.{_+_, _*_, _≤_, _<_};
+ghost use lib.Dec.{eqb};
+ghost use lib.ListN.{length};
+ghost use Rattle.channels.specs.Some.{someOf};
+ghost use Rattle.channels.specs.Channels.{rangeCount, among};
+ghost use Rattle.pairs.specs.Pairs.{isNumber, inPairs, size};
+ghost use Rattle.calls.specs.Calls.{isLive, holdsPair};
+ghost use Rattle.search.specs.Search.{taken, howMany, hasPair, pairsThere, searched};
+ghost use Rattle.search.specs.Marks.{near, allMarks, used, markIn, nearLast, Added};
 
-// The lowest free pair, and how many places of a list of pairs were read to find it.
+// One more than there can be pairs: of so many VCIs one is free.
+const NEAR: usize = 105;
+
+// The marks of all ranges.
+const MARKS: usize = 420;
+
+// The lowest free pair, and how many pairs were read to find it.
 pub struct Finding {
     pub found: Channel,
     pub reads: u32,
+}
+
+// A range without a VCI counts only before one that has some.
+fn ranges_used(pool: Pool) -> usize
+    ensures { λ r. ⌜ r ≡ used (pool .ranges) ⌝ }
+    ensures within { λ r. ⌜ r ≤ rangeCount ⌝ }
+{
+    let mut n = RANGES;
+    while 0 < n {
+        let range = pool.ranges[n - 1];
+        if range.first <= range.last {
+            return n;
+        }
+        n -= 1;
+    }
+    0
+}
+
+// Sets the mark of a pair in range k, if it has one there.
+fn mark_in(range: Range, k: usize, pair: u32, on: &mut [bool])
+    requires { ⌜ (k < rangeCount) × (length (now on) ≡ allMarks) ⌝ }
+    ensures { λ r. ⌜ now (on .exit) ≡ markIn range k pair (now (on .entry)) ⌝ }
+{
+    let first = number(range.vpci, range.first);
+    if pair < first {
+        return;
+    }
+    let offset = (pair - first) as usize;
+    if offset < NEAR {
+        on[k * NEAR + offset] = true;
+    }
+}
+
+// A pair that was read: the count is stepped, and its mark is set in each of the first n ranges.
+fn mark_pair(pool: Pool, n: usize, vpci: u16, vci: u16, on: &mut [bool], reads: &mut u32)
+    requires { ⌜ (n ≤ rangeCount) × (length (now on) ≡ allMarks) × (now reads < 3 * near) ⌝ }
+    ensures count { λ r. ⌜ now (reads .exit) ≡ now (reads .entry) + 1 ⌝ }
+    ensures marks { λ r. ⌜ Added (pool .ranges) n (λ p v. eqb vpci p && eqb vci v) (now (on .entry)) (now (on .exit)) ⌝ }
+{
+    *reads += 1;
+    let pair = number(vpci, vci);
+    mark_in(pool.ranges[0], 0, pair, on);
+    if n < 2 {
+        return;
+    }
+    mark_in(pool.ranges[1], 1, pair, on);
+    if n < 3 {
+        return;
+    }
+    mark_in(pool.ranges[2], 2, pair, on);
+    if n < 4 {
+        return;
+    }
+    mark_in(pool.ranges[3], 3, pair, on);
+}
+
+// The same, of a pair by its number.
+fn mark_number(pool: Pool, n: usize, pair: u32, on: &mut [bool], reads: &mut u32)
+    requires { ⌜ (n ≤ rangeCount) × (length (now on) ≡ allMarks) × (now reads < 2 * near) ⌝ }
+    ensures count { λ r. ⌜ now (reads .exit) ≡ now (reads .entry) + 1 ⌝ }
+    ensures marks { λ r. ⌜ Added (pool .ranges) n (λ p v. isNumber p v pair) (now (on .entry)) (now (on .exit)) ⌝ }
+{
+    let vpci = (pair / 65536) as u16;
+    let vci = (pair % 65536) as u16;
+    mark_pair(pool, n, vpci, vci, on, reads);
+}
+
+// Reads the pair of each call.
+fn mark_slots(pool: Pool, n: usize, slots: Slots, on: &mut [bool], reads: &mut u32)
+    requires { ⌜ (n ≤ rangeCount) × (length (now on) ≡ allMarks) × (now reads ≤ near) ⌝ }
+    ensures count { λ r. ⌜ now (reads .exit) ≡ now (reads .entry) + howMany isLive (slots .all) ⌝ }
+    ensures marks { λ r. ⌜ Added (pool .ranges) n (λ p v. someOf (holdsPair p v) (slots .all)) (now (on .entry)) (now (on .exit)) ⌝ }
+{
+    let mut i: usize = 0;
+    while i < SLOTS {
+        let slot = slots.all[i];
+        i += 1;
+        let hold = slot.hold;
+        let Hold::Live(call, _) = hold else {
+            continue;
+        };
+        mark_pair(pool, n, call.vpci, call.vci, on, reads);
+    }
+}
+
+// Reads each permanent pair.
+fn mark_permanents(pool: Pool, n: usize, on: &mut [bool], reads: &mut u32)
+    requires { ⌜ (n ≤ rangeCount) × (length (now on) ≡ allMarks) × (now reads ≤ near) ⌝ }
+    ensures count { λ r. ⌜ now (reads .exit) ≡ now (reads .entry) + howMany hasPair (pool .permanents) ⌝ }
+    ensures marks { λ r. ⌜ Added (pool .ranges) n (λ p v. among p v (pool .permanents)) (now (on .entry)) (now (on .exit)) ⌝ }
+{
+    let mut i: usize = 0;
+    while i < PERMANENTS {
+        let entry = pool.permanents[i];
+        i += 1;
+        let channel = entry.channel;
+        let Channel::Pair(vpci, vci) = channel else {
+            continue;
+        };
+        mark_pair(pool, n, vpci, vci, on, reads);
+    }
+}
+
+// Reads each pair in doubt.
+fn mark_doubts(pool: Pool, n: usize, doubts: Pairs, on: &mut [bool], reads: &mut u32)
+    requires { ⌜ (n ≤ rangeCount) × (length (now on) ≡ allMarks) × (now reads ≤ near) ⌝ }
+    ensures count { λ r. ⌜ now (reads .exit) ≡ now (reads .entry) + size doubts ⌝ }
+    ensures marks { λ r. ⌜ Added (pool .ranges) n (λ p v. inPairs doubts p v) (now (on .entry)) (now (on .exit)) ⌝ }
+{
+    let size = doubts.size();
+    let mut i: usize = 0;
+    while i < size {
+        let pair = doubts.numbers[i];
+        mark_number(pool, n, pair, on, reads);
+        i += 1;
+    }
+}
+
+// Reads each pair once. Where none is in doubt the list of them is not handed on.
+fn mark_pairs(pool: Pool, n: usize, slots: Slots, doubts: Pairs, on: &mut [bool], reads: &mut u32)
+    requires { ⌜ (n ≤ rangeCount) × (length (now on) ≡ allMarks) × (now reads ≡ 0) ⌝ }
+    ensures count { λ r. ⌜ now (reads .exit) ≡ pairsThere (slots .all) doubts (pool .permanents) ⌝ }
+    ensures marks { λ r. ⌜ Added (pool .ranges) n (taken (slots .all) doubts (pool .permanents)) (now (on .entry)) (now (on .exit)) ⌝ }
+{
+    mark_slots(pool, n, slots, on, reads);
+    mark_permanents(pool, n, on, reads);
+    if doubts.count == 0 {
+        return;
+    }
+    mark_doubts(pool, n, doubts, on, reads);
 }
 
 // The last VCI of a range that has a mark.
@@ -32,42 +185,39 @@ fn near_last(range: Range) -> u32
     last
 }
 
-// The walk over ranges and VCIs, left by its label at the first free pair: for each range that has a VCI the pairs are
-// read once, and then the marks alone.
-pub fn find_free(pool: Pool, held: Held, doubts: Doubts) -> Finding
-    ensures { λ r. ⌜ r ≡ searched (held .entries) (doubts .entries) pool ⌝ }
+// Each pair is read once; then comes the walk over ranges and VCIs, over the marks alone, left by its label at the first
+// free pair. Where no range has a VCI, no pair is read.
+pub fn find_free(pool: Pool, slots: Slots, doubts: Pairs) -> Finding
+    ensures { λ r. ⌜ r ≡ searched (slots .all) doubts pool ⌝ }
 {
     let mut found = Channel::None;
     let mut reads: u32 = 0;
-    let mut i: usize = 0;
-    'search: while i < 4 {
-        let range = pool.ranges[i];
-        i += 1;
-        if range.last < range.first {
-            continue;
-        }
-        let marks = read_marks(range, pool, held, doubts);
-        reads += marks.reads;
+    let n = ranges_used(pool);
+    if n == 0 {
+        return Finding {
+            found: found,
+            reads: reads,
+        };
+    }
+    let mut on = [false; MARKS];
+    mark_pairs(pool, n, slots, doubts, &mut on, &mut reads);
+    let mut k: usize = 0;
+    'search: while k < n {
+        let range = pool.ranges[k];
         let first = range.first as u32;
         let last = near_last(range);
         let mut v = first;
         while v <= last {
-            if !marks.on[(v - first) as usize] {
+            if !on[k * NEAR + (v - first) as usize] {
                 found = Channel::Pair(range.vpci, v as u16);
                 break 'search;
             }
             v += 1;
         }
+        k += 1;
     }
     Finding {
         found: found,
         reads: reads,
     }
-}
-
-pub fn lowest_free(pool: Pool, held: Held, doubts: Doubts) -> Channel
-    ensures { λ r. ⌜ r ≡ lowest (taken (held .entries) (doubts .entries) (pool .permanents)) (pool .ranges) ⌝ }
-{
-    let finding = find_free(pool, held, doubts);
-    finding.found
 }

@@ -2,7 +2,7 @@
 --   absent, broken                of one element
 --   foundIn, chosen               what is found of the four that SETUP must have, and those that pass a test
 --   someNamed                     if at least one of them is named
---   isMultipoint, allowedIn       the bearer capability, and the traffic rule
+--   multipointIn, allowedIn       the bearer capability, and the traffic rule
 --   admission                     the first cause that applies
 -- The walk begins at place `from`. Assumes nothing.
 use Prim.Native.Nat.{ℕ}
@@ -12,9 +12,8 @@ use Rattle.traffic.specs.Traffic.{trafficAllowed}
 use Rattle.elements.specs.declared.Look.{Look}
 use Rattle.elements.specs.declared.Look.the-variants.{Absent, Unreadable, Readable}
 use Rattle.elements.specs.Elements.{lookFor}
-use Rattle.elements.specs.declared.BearerRead.{BearerRead}
-use Rattle.elements.specs.declared.BearerRead.the-variants as bearerRead
-use Rattle.elements.specs.Values.{read, bearerIn}
+use Rattle.elements.specs.Values.{read}
+use Rattle.mandatory.specs.Mandatory.{multipoint}
 use Rattle.replies.specs.declared.Mandatory.{Mandatory}
 use Rattle.replies.specs.declared.Diagnostic.the-variants as diagnostic
 use Rattle.setup.specs.declared.Mandated.{Mandated}
@@ -47,16 +46,13 @@ chosen test l = record { traffic = test (l .traffic); qos = test (l .qos); beare
 abbrev pub someNamed : Mandatory → Bool
 someNamed n = n .traffic || (n .qos || (n .bearer || n .called))
 
--- "65 multipoint"
-abbrev pub isMultipoint : BearerRead → Bool
-isMultipoint bearerRead.Absent = false
-isMultipoint bearerRead.Unreadable = false
-isMultipoint bearerRead.PointToPoint = false
-isMultipoint bearerRead.Multipoint = true
+-- "65 multipoint": of a readable bearer capability
+abbrev pub multipointIn : List ℕ → Look → Bool
+multipointIn m look = read m false false multipoint look
 
 -- "73 (84 or 85 absent, or BE with any but 84 85 BF)": of a readable traffic descriptor
-abbrev pub allowedIn : List ℕ → ℕ → Bool
-allowedIn m from = read m false false trafficAllowed (lookFor m from 0x59)
+abbrev pub allowedIn : List ℕ → Look → Bool
+allowedIn m look = read m false false trafficAllowed look
 
 abbrev pub refused : ℕ → Admission
 refused n = Refused (record { number = n; diagnostic = diagnostic.None })
@@ -72,6 +68,6 @@ admission m from =
     (refusedFor 96 (chosen absent (foundIn m from)))
     (cond (someNamed (chosen broken (foundIn m from)))
     (refusedFor 100 (chosen broken (foundIn m from)))
-    (cond (isMultipoint (bearerIn m from))
+    (cond (multipointIn m (foundIn m from .bearer))
     (refused 65)
-    (cond (allowedIn m from) Admitted (refused 73))))
+    (cond (allowedIn m (foundIn m from .traffic)) Admitted (refused 73))))

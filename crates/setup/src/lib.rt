@@ -3,13 +3,14 @@
 //   admit            what a SETUP's elements are refused for, before the table is asked
 //   offer_fits       whether octets are an offer's body, their number apart
 // Nothing has a `requires`. Assumes nothing.
-use elements::BearerRead;
 use elements::Look;
 use replies::Cause;
 use replies::Diagnostic;
 use replies::Mandatory;
 ghost use mathlib.Core.Path.{_≡_};
-ghost use Rattle.setup.specs.Setup.{absent, broken, foundIn, chosen, someNamed, isMultipoint, allowedIn, refused, refusedFor, admission};
+ghost use lib.ListN.{length};
+ghost use Rattle.elements.specs.Elements.{Within};
+ghost use Rattle.setup.specs.Setup.{absent, broken, foundIn, chosen, someNamed, multipointIn, allowedIn, refused, refusedFor, admission};
 ghost use Rattle.setup.specs.Offer.{counted, isAdmitted, offerFits};
 
 pub enum Admission {
@@ -47,6 +48,7 @@ struct Mandated {
 
 fn find_all(m: &[u8], from: usize) -> Mandated
     ensures { λ r. ⌜ r ≡ foundIn (now (m .entry)) from ⌝ }
+    ensures within { λ r. ⌜ (Within (length (now (m .entry))) (r .bearer)) × (Within (length (now (m .entry))) (r .traffic)) ⌝ }
 {
     let traffic = elements::look_for(m, from, 0x59);
     let qos = elements::look_for(m, from, 0x5C);
@@ -105,21 +107,24 @@ fn some_named(named: Mandatory) -> bool
     named.called
 }
 
-fn is_multipoint(bearer: BearerRead) -> bool
-    ensures { λ r. ⌜ r ≡ isMultipoint bearer ⌝ }
+// What is asked of the contents of the bearer capability, where they are readable.
+fn is_multipoint(m: &[u8], bearer: Look) -> bool
+    requires { ⌜ Within (length (now m)) bearer ⌝ }
+    ensures { λ r. ⌜ r ≡ multipointIn (now (m .entry)) bearer ⌝ }
 {
     match bearer {
-        BearerRead::Absent => false,
-        BearerRead::Unreadable => false,
-        BearerRead::PointToPoint => false,
-        BearerRead::Multipoint => true,
+        Look::Absent => false,
+        Look::Unreadable => false,
+        Look::Readable(start, end) => mandatory::is_multipoint(&m[start..end]),
     }
 }
 
-fn is_allowed(m: &[u8], from: usize) -> bool
-    ensures { λ r. ⌜ r ≡ allowedIn (now (m .entry)) from ⌝ }
+// .. and of the traffic descriptor.
+fn is_allowed(m: &[u8], traffic: Look) -> bool
+    requires { ⌜ Within (length (now m)) traffic ⌝ }
+    ensures { λ r. ⌜ r ≡ allowedIn (now (m .entry)) traffic ⌝ }
 {
-    match elements::look_for(m, from, 0x59) {
+    match traffic {
         Look::Absent => false,
         Look::Unreadable => false,
         Look::Readable(start, end) => traffic::traffic_allowed(&m[start..end]),
@@ -157,10 +162,12 @@ pub fn admit(m: &[u8], from: usize) -> Admission
     if some_named(broken) {
         return refused_for(100, broken);
     }
-    if is_multipoint(elements::bearer(m, from)) {
+    let bearer = found.bearer;
+    if is_multipoint(m, bearer) {
         return refused(65);
     }
-    if is_allowed(m, from) {
+    let traffic = found.traffic;
+    if is_allowed(m, traffic) {
         return Admission::Admitted;
     }
     refused(73)

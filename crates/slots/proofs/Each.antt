@@ -2,14 +2,19 @@
 --   mapped          the array at that point
 --   mapped-more     one more
 --   mapped-all      all
+-- And of flags made so:
+--   some-set        a flag is set if and only if some element passes
 -- Assumes nothing.
 use Prim.Native.Nat.{ℕ, zero, suc, _+_, _≤_, _<_}
 use mathlib.Core.Path.{_≡_, refl, ap, _∙_}
+use mathlib.Core.Bool.{Bool, _||_}
 use mathlib.Core.List.{List, [], _∷_, _++_, map, append-nil}
 use native.Mathlib.Omega.{arith}
 use native.Mathlib.Numerals.{add-one}
 use lib.ListN.{length, take, drop, getD, set, drop-of-length-le}
 use lib.Seq.{take-all}
+use Rattle.channels.specs.Some.{someOf}
+use Rattle.slots.specs.Slots.{isSet}
 
 module _ {A B : Type 0} (f : A → B) where
   abbrev pub mapped : List A → List B → ℕ → List B
@@ -28,3 +33,7 @@ module _ {A B : Type 0} (f : A → B) where
 
   pub mapped-all : (xs : List A) (ys : List B) (i : ℕ) → length xs ≤ i → length ys ≤ i → mapped xs ys i ≡ map f xs
   mapped-all xs ys i h k = rw (take-all i xs h, drop-of-length-le ys {i = i} k) (append-nil (map f xs))
+
+pub some-set : {A : Type 0} (p : A → Bool) (xs : List A) → someOf isSet (map p xs) ≡ someOf p xs
+some-set p [] = refl
+some-set p (x ∷ xs) = ap (λ (b : Bool). p x || b) (some-set p xs)

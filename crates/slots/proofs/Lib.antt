@@ -1,4 +1,4 @@
 pub mod Each
-pub mod Held
 pub mod Unused
 pub mod Timers
+pub mod Spots

@@ -1,44 +1,60 @@
-// What an accepted message and an accepted tick do to the table: performed once, by value.
-//   Table                    the slots, the pairs in doubt, the last accepted reading and the pool
+// The table: what an accepted message and an accepted tick do to it, decided, and how a decision is performed.
+//   Table                    the slots, the last accepted reading, the pairs in doubt and the pool
+//   Table::after             a change performed, and the reading stored: the one way in which a table changes
+//   Table::flags, notice     what a change tells the host
 //   Table::free_pair         the lowest free permitted pair
 //   Table::heard             a message that passed the header checks
-//   Table::fire              the timer that a tick fires
+//   Fired, Table::fire       the timer that a tick fires, and if another is due
 // `heard` and `fire` ask for a reading that is not refused. Assumes nothing.
 use calls::Call;
 use calls::Hold;
-use calls::Phase;
+use calls::Slot;
+use calls::State;
 use channels::Channel;
+use channels::Named;
 use channels::Pool;
-use doubts::Doubts;
+use effects::Change;
 use effects::Effect;
 use effects::assign;
-use effects::doubt_of;
-use effects::doubting;
-use effects::on_slot;
+use effects::on_call;
 use effects::quiet;
 use effects::replying;
 use first::Found;
 use header::Header;
+use pairs::Pairs;
 use replies::Cause;
+use replies::Outgoing;
 use replies::Reply;
 use setup::Admission;
+use slots::Flags;
 use slots::Slots;
+use slots::Soonest;
+use slots::Spot;
 ghost use mathlib.Core.Path.{_≡_};
 ghost use mathlib.Core.Bool.{true, _&&_, not};
-ghost use Prim.Native.Nat.{_≤_, _<_};
+ghost use Prim.Native.Nat.{_≤_};
 ghost use lib.Dec.{eqb};
 ghost use Rattle.calls.specs.Calls.{isEmpty};
+ghost use Rattle.calls.specs.Timers.{largestReading};
 ghost use Rattle.first.specs.First.{place};
 ghost use Rattle.setup.specs.Setup.{admission};
+ghost use Rattle.slots.specs.Timers.{someDue};
+ghost use Rattle.effects.specs.Change.{slotsAfter, flagsOf, noticeOf};
 ghost use Rattle.effects.specs.Effect.{replying};
-ghost use Rattle.table.specs.Effects.{freePair, onPair, admitted, setupEffect, onNoCall, addressed, globalEffect, messageEffect, fired, tickEffect};
+ghost use Rattle.table.specs.Effects.{readAt, withSlot, withDoubt, restarted, tableAfter, freePair, onPair, admitted, setupEffect, onNoCall, onHold, globalEffect, messageEffect, fireHold, tickEffect};
 
-// The table: the slots of calls, the pairs in doubt, the last accepted reading and the pool of channels.
+// The table: the slots of calls, the last accepted reading, the pairs in doubt and the pool of channels.
 pub struct Table {
     pub slots: Slots,
-    pub doubts: Doubts,
     pub last: u64,
+    pub doubts: Pairs,
     pub pool: Pool,
+}
+
+// What a tick does, and if another timer is due afterwards.
+pub struct Fired {
+    pub effect: Effect,
+    pub more: bool,
 }
 
 // RESTART with flag 0.
@@ -51,7 +67,166 @@ fn is_restart(head: Header) -> bool
     false
 }
 
+// RELEASE COMPLETE for a SETUP.
+fn refuse_setup(reference: u32, why: Cause) -> Effect
+    ensures { λ r. ⌜ r ≡ replying true reference (Reply.ReleaseCompleteWith why) ⌝ }
+{
+    replying(true, reference, Reply::ReleaseCompleteWith(why))
+}
+
+// An admitted SETUP with an empty slot: it gets the pair, where there is one.
+fn set_up_on(reference: u32, i: usize, pair: Channel) -> Effect
+    ensures { λ r. ⌜ r ≡ onPair reference i pair ⌝ }
+{
+    match pair {
+        Channel::None => refuse_setup(reference, verdicts::plain_cause(45)),
+        Channel::Pair(vpci, vci) => {
+            let call = Call {
+                network: false,
+                vpci: vpci,
+                vci: vci,
+                reference: reference,
+            };
+            assign(
+                i,
+                call,
+                State::N3,
+                true,
+                Outgoing::Reply(Reply::CallProceeding(vpci, vci)),
+            )
+        }
+    }
+}
+
+// A message on the call of a slot.
+fn on_slot(m: &[u8], head: Header, reading: u64, i: usize, slot: Slot) -> Effect
+    requires { ⌜ reading ≤ largestReading ⌝ }
+    ensures { λ r. ⌜ r ≡ onHold (now (m .entry)) head reading i (slot .hold) ⌝ }
+{
+    let hold = slot.hold;
+    match hold {
+        Hold::Empty => quiet(),
+        Hold::Live(call, state) => on_call(
+            i,
+            call,
+            !head.flag,
+            head.reference,
+            judging::judge(m, head, state, reading),
+        ),
+    }
+}
+
+// The timer of a slot's call fires; `full`: there is no room for a doubt.
+fn fire_slot(full: bool, reading: u64, i: usize, hold: Hold) -> Effect
+    requires { ⌜ reading ≤ largestReading ⌝ }
+    ensures { λ r. ⌜ r ≡ fireHold full reading i hold ⌝ }
+{
+    match hold {
+        Hold::Empty => quiet(),
+        Hold::Live(call, state) => on_call(
+            i,
+            call,
+            !call.network,
+            call.reference,
+            verdicts::expire(state, reading, full),
+        ),
+    }
+}
+
 impl Table {
+    // The reading is stored.
+    fn at(self, reading: u64) -> Table
+        ensures { λ r. ⌜ r ≡ readAt self reading ⌝ }
+    {
+        let mut table = self;
+        table.last = reading;
+        table
+    }
+
+    // One slot is changed.
+    fn put(self, reading: u64, i: usize, slot: Slot) -> Table
+        ensures { λ r. ⌜ r ≡ withSlot self reading i slot ⌝ }
+    {
+        let mut table = self;
+        table.last = reading;
+        let slots = table.slots;
+        table.slots = slots.with_slot(i, slot);
+        table
+    }
+
+    // A pair is in doubt.
+    fn doubt(self, vpci: u16, vci: u16) -> Table
+        ensures { λ r. ⌜ r ≡ withDoubt self vpci vci ⌝ }
+    {
+        let mut table = self;
+        let doubts = table.doubts;
+        table.doubts = doubts.with(vpci, vci);
+        table
+    }
+
+    // The calls on the pairs that are named go, and these pairs are not in doubt.
+    fn restart(self, reading: u64, named: Named) -> Table
+        ensures { λ r. ⌜ r ≡ restarted self reading named ⌝ }
+    {
+        let slots = self.slots;
+        let doubts = self.doubts;
+        let pool = self.pool;
+        Table {
+            slots: slots.without(named),
+            last: reading,
+            doubts: doubts.unless_named(named),
+            pool: pool,
+        }
+    }
+
+    // A change is performed, and the reading is stored: the one way in which a table changes.
+    pub fn after(self, reading: u64, change: Change) -> Table
+        ensures { λ r. ⌜ r ≡ tableAfter self reading change ⌝ }
+    {
+        match change {
+            Change::Keep => self.at(reading),
+            Change::Put(i, slot, _) => self.put(reading, i, slot),
+            Change::Doubt(i, vpci, vci) => {
+                let emptied = self.put(reading, i, Slot::empty());
+                emptied.doubt(vpci, vci)
+            }
+            Change::Restart(named) => self.restart(reading, named),
+        }
+    }
+
+    // The flags of the slots that a change's notice names.
+    pub fn flags(self, change: Change) -> Flags
+        ensures { λ r. ⌜ r ≡ flagsOf change (self .slots) ⌝ }
+    {
+        match change {
+            Change::Keep => Flags::none(),
+            Change::Put(i, _, notice) => effects::flag_slot(notice, i),
+            Change::Doubt(i, _, _) => Flags::only(i),
+            Change::Restart(named) => {
+                let slots = self.slots;
+                slots.named(named)
+            }
+        }
+    }
+
+    // The notice of a change: of a RESTART, only if some call goes.
+    pub fn notice(self, change: Change) -> u8
+        ensures { λ r. ⌜ r ≡ noticeOf change (flagsOf change (self .slots)) ⌝ }
+    {
+        match change {
+            Change::Keep => 0,
+            Change::Put(_, _, notice) => notice,
+            Change::Doubt(_, _, _) => 3,
+            Change::Restart(named) => {
+                let slots = self.slots;
+                if slots.any_named(named) {
+                    return 3;
+                }
+                0
+            }
+        }
+    }
+
     // The lowest free permitted pair.
     pub fn free_pair(self) -> Channel
         ensures { λ r. ⌜ r ≡ freePair self ⌝ }
@@ -59,42 +234,8 @@ impl Table {
         let slots = self.slots;
         let doubts = self.doubts;
         let pool = self.pool;
-        search::lowest_free(pool, slots.held(), doubts)
-    }
-
-    fn refuse_setup(self, reference: u32, why: Cause) -> Effect
-        ensures { λ r. ⌜ r ≡ replying (self .slots) true reference (Reply.ReleaseCompleteWith why) ⌝ }
-    {
-        let slots = self.slots;
-        replying(slots, true, reference, Reply::ReleaseCompleteWith(why))
-    }
-
-    // An admitted SETUP with an empty slot: it gets the pair, where there is one.
-    fn set_up_on(self, reference: u32, i: usize, pair: Channel) -> Effect
-        requires { ⌜ i < 32 ⌝ }
-        ensures { λ r. ⌜ r ≡ onPair self reference i pair ⌝ }
-    {
-        let slots = self.slots;
-        match pair {
-            Channel::None => self.refuse_setup(reference, verdicts::plain_cause(45)),
-            Channel::Pair(vpci, vci) => {
-                let call = Call {
-                    network: false,
-                    reference: reference,
-                    vpci: vpci,
-                    vci: vci,
-                    phase: Phase::N3,
-                };
-                assign(
-                    slots,
-                    i,
-                    true,
-                    reference,
-                    call,
-                    Reply::CallProceeding(vpci, vci),
-                )
-            }
-        }
+        let finding = search::find_free(pool, slots, doubts);
+        finding.found
     }
 
     // An admitted SETUP: it gets the lowest empty slot, where there is one.
@@ -103,8 +244,8 @@ impl Table {
     {
         let slots = self.slots;
         match slots.lowest_empty() {
-            Found::Nothing => self.refuse_setup(reference, verdicts::plain_cause(47)),
-            Found::At(i) => self.set_up_on(reference, i, self.free_pair()),
+            Found::Nothing => refuse_setup(reference, verdicts::plain_cause(47)),
+            Found::At(i) => set_up_on(reference, i, self.free_pair()),
         }
     }
 
@@ -113,7 +254,7 @@ impl Table {
     {
         match setup::admit(m, 9) {
             Admission::Admitted => self.set_up_admitted(reference),
-            Admission::Refused(why) => self.refuse_setup(reference, why),
+            Admission::Refused(why) => refuse_setup(reference, why),
         }
     }
 
@@ -121,60 +262,35 @@ impl Table {
     fn on_no_call(self, m: &[u8], head: Header) -> Effect
         ensures { λ r. ⌜ r ≡ onNoCall self (now (m .entry)) head ⌝ }
     {
-        let slots = self.slots;
         if head.kind == 0x05 {
             if head.flag {
-                return quiet(slots);
+                return quiet();
             }
             if head.whole {
                 return self.set_up(m, head.reference);
             }
-            return quiet(slots);
+            return quiet();
         }
-        replying(
-            slots,
-            !head.flag,
-            head.reference,
-            judging::no_call_reply(m, head),
-        )
-    }
-
-    // A message that names the call of a slot.
-    fn on_call(self, m: &[u8], head: Header, reading: u64, i: usize) -> Effect
-        requires { ⌜ (i < 32) × (reading ≤ 4000000000000) ⌝ }
-        ensures { λ r. ⌜ r ≡ addressed self (now (m .entry)) head reading (Found.At i) ⌝ }
-    {
-        let slots = self.slots;
-        let slot = slots.slot_at(i);
-        let hold = slot.hold;
-        match hold {
-            Hold::Empty => quiet(slots),
-            Hold::Live(call) => {
-                let phase = call.phase;
-                let verdict = judging::judge(m, head, phase, reading);
-                on_slot(slots, i, !head.flag, head.reference, verdict)
-            }
-        }
+        replying(!head.flag, head.reference, judging::no_call_reply(m, head))
     }
 
     // A message on the global reference.
     fn on_global(self, m: &[u8], head: Header) -> Effect
         ensures { λ r. ⌜ r ≡ globalEffect self (now (m .entry)) head ⌝ }
     {
-        let slots = self.slots;
         let pool = self.pool;
         if is_restart(head) {
             if head.whole {
-                return effects::restart(slots, pool, m, true);
+                return effects::restart(pool, m);
             }
-            return quiet(slots);
+            return quiet();
         }
-        replying(slots, !head.flag, 0, judging::global_reply(head))
+        replying(!head.flag, 0, judging::global_reply(head))
     }
 
     // A message that passed the header checks.
     pub fn heard(self, m: &[u8], head: Header, reading: u64) -> Effect
-        requires { ⌜ reading ≤ 4000000000000 ⌝ }
+        requires { ⌜ reading ≤ largestReading ⌝ }
         ensures { λ r. ⌜ r ≡ messageEffect self (now (m .entry)) head reading ⌝ }
     {
         let slots = self.slots;
@@ -182,41 +298,27 @@ impl Table {
             return self.on_global(m, head);
         }
         match slots.find(head.flag, head.reference) {
-            Found::Nothing => self.on_no_call(m, head),
-            Found::At(i) => self.on_call(m, head, reading, i),
-        }
-    }
-
-    // The timer of a slot's call fires.
-    fn fire_slot(self, reading: u64, i: usize) -> Effect
-        requires { ⌜ (i < 32) × (reading ≤ 4000000000000) ⌝ }
-        ensures { λ r. ⌜ r ≡ fired self reading (Found.At i) ⌝ }
-    {
-        let slots = self.slots;
-        let doubts = self.doubts;
-        let slot = slots.slot_at(i);
-        let hold = slot.hold;
-        match hold {
-            Hold::Empty => quiet(slots),
-            Hold::Live(call) => {
-                let phase = call.phase;
-                let full = doubts.is_full();
-                let verdict = verdicts::expire(phase, reading, full);
-                let effect = on_slot(slots, i, !call.network, call.reference, verdict);
-                doubting(doubt_of(full, call), effect)
-            }
+            Spot::Nothing => self.on_no_call(m, head),
+            Spot::At(i, slot) => on_slot(m, head, reading, i, slot),
         }
     }
 
     // The timer that a tick fires, if one is due.
-    pub fn fire(self, reading: u64) -> Effect
-        requires { ⌜ reading ≤ 4000000000000 ⌝ }
-        ensures { λ r. ⌜ r ≡ tickEffect self reading ⌝ }
+    pub fn fire(self, reading: u64) -> Fired
+        requires { ⌜ reading ≤ largestReading ⌝ }
+        ensures { λ r. ⌜ (r .effect ≡ tickEffect self reading) × (r .more ≡ someDue reading (slotsAfter (tickEffect self reading .change) (self .slots) .all)) ⌝ }
     {
         let slots = self.slots;
-        match slots.next_due(reading) {
-            Found::Nothing => quiet(slots),
-            Found::At(i) => self.fire_slot(reading, i),
+        let doubts = self.doubts;
+        match slots.soonest(reading) {
+            Soonest::Nothing => Fired {
+                effect: quiet(),
+                more: false,
+            },
+            Soonest::Timer(i, _, another) => Fired {
+                effect: fire_slot(doubts.is_full(), reading, i, slots.hold_at(i as u64)),
+                more: another,
+            },
         }
     }
 }

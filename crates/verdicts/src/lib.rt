@@ -1,31 +1,32 @@
 // What becomes of a call, and what a clear by the host and a firing timer make of it.
-//   Fate, Verdict             what becomes of a call; that with the reply and the notice
+//   Fate, Verdict             what becomes of a call; that with the reply
 //   because, plain_cause      a cause with its diagnostic, and one without
-//   answered, turned, ended   the call stays; it goes to another state; it is gone
+//   answered, moved, ended    the call stays; it goes to another state; it is gone
 //   release, expire           RELEASE is sent, and T308 runs; a timer fires
-//   is_last_t308              if the second T308 runs
 // `release` and `expire` ask for a reading that is not refused. Assumes nothing.
 use calls::Clearing;
-use calls::Phase;
+use calls::State;
+use calls::T308;
 use replies::Cause;
 use replies::Diagnostic;
 use replies::Reply;
 ghost use mathlib.Core.Path.{_≡_};
 ghost use Prim.Native.Nat.{_≤_};
-ghost use Rattle.verdicts.specs.Verdict.{because, plainCause, answered, turned, ended};
-ghost use Rattle.verdicts.specs.Expiry.{diagnosed, released, waiting, expireClearing, expire, lastT308};
+ghost use Rattle.calls.specs.Timers.{largestReading};
+ghost use Rattle.verdicts.specs.Verdict.{because, plainCause, answered, moved, ended, lost};
+ghost use Rattle.verdicts.specs.Expiry.{diagnosed, released, waiting, expireClearing, expire};
 
-// What becomes of a call.
+// What becomes of a call. `To`: it goes to a state, with this notice. `InDoubt`: it is gone, and its pair is in doubt.
 pub enum Fate {
     Stay,
-    To(Phase),
+    To(State, u8),
     Gone,
+    InDoubt,
 }
 
 pub struct Verdict {
     pub fate: Fate,
     pub reply: Reply,
-    pub notice: u8,
 }
 
 // A cause with its diagnostic.
@@ -52,29 +53,36 @@ pub fn answered(reply: Reply) -> Verdict
     Verdict {
         fate: Fate::Stay,
         reply: reply,
-        notice: 0,
     }
 }
 
 // The call goes to another state.
-pub fn turned(phase: Phase, reply: Reply, notice: u8) -> Verdict
-    ensures { λ r. ⌜ r ≡ turned phase reply notice ⌝ }
+pub fn moved(state: State, reply: Reply, notice: u8) -> Verdict
+    ensures { λ r. ⌜ r ≡ moved state reply notice ⌝ }
 {
     Verdict {
-        fate: Fate::To(phase),
+        fate: Fate::To(state, notice),
         reply: reply,
-        notice: notice,
     }
 }
 
-// The call is gone: the host is told.
+// The call is gone.
 pub fn ended(reply: Reply) -> Verdict
     ensures { λ r. ⌜ r ≡ ended reply ⌝ }
 {
     Verdict {
         fate: Fate::Gone,
         reply: reply,
-        notice: 3,
+    }
+}
+
+// The call is gone, and its pair is in doubt.
+fn lost() -> Verdict
+    ensures { λ r. ⌜ r ≡ lost ⌝ }
+{
+    Verdict {
+        fate: Fate::InDoubt,
+        reply: Reply::None,
     }
 }
 
@@ -89,18 +97,17 @@ fn diagnosed(expired: bool) -> Diagnostic
 
 // RELEASE is sent, and T308 runs.
 pub fn release(reading: u64, second: bool, cause: u8, expired: bool) -> Verdict
-    requires { ⌜ reading ≤ 4000000000000 ⌝ }
+    requires { ⌜ reading ≤ largestReading ⌝ }
     ensures { λ r. ⌜ r ≡ released reading second cause expired ⌝ }
 {
     let clearing = Clearing {
-        deadline: reading + 30000,
         second: second,
         cause: cause,
         expired: expired,
     };
     let diagnostic = diagnosed(expired);
-    turned(
-        Phase::N12(clearing),
+    moved(
+        State::N12(clearing, reading + T308),
         Reply::Release(because(cause, diagnostic)),
         0,
     )
@@ -108,54 +115,40 @@ pub fn release(reading: u64, second: bool, cause: u8, expired: bool) -> Verdict
 
 // With no room for a doubt, the call waits: T308 starts again, and nothing is sent.
 fn wait(reading: u64, clearing: Clearing) -> Verdict
-    requires { ⌜ reading ≤ 4000000000000 ⌝ }
+    requires { ⌜ reading ≤ largestReading ⌝ }
     ensures { λ r. ⌜ r ≡ waiting reading clearing ⌝ }
 {
     let again = Clearing {
-        deadline: reading + 30000,
         second: true,
         cause: clearing.cause,
         expired: clearing.expired,
     };
-    turned(Phase::N12(again), Reply::None, 0)
+    moved(State::N12(again, reading + T308), Reply::None, 0)
 }
 
 fn expire_clearing(clearing: Clearing, reading: u64, full: bool) -> Verdict
-    requires { ⌜ reading ≤ 4000000000000 ⌝ }
+    requires { ⌜ reading ≤ largestReading ⌝ }
     ensures { λ r. ⌜ r ≡ expireClearing full clearing reading ⌝ }
 {
     if clearing.second {
         if full {
             return wait(reading, clearing);
         }
-        return ended(Reply::None);
+        return lost();
     }
     release(reading, true, clearing.cause, clearing.expired)
 }
 
-// If the second T308 runs in this state.
-pub fn is_last_t308(phase: Phase) -> bool
-    ensures { λ r. ⌜ r ≡ lastT308 phase ⌝ }
-{
-    match phase {
-        Phase::N3 => false,
-        Phase::N6(_) => false,
-        Phase::N9(_) => false,
-        Phase::N10 => false,
-        Phase::N12(clearing) => clearing.second,
-    }
-}
-
 // The timer of a call in this state fires; `full`: there is no room for a doubt.
-pub fn expire(phase: Phase, reading: u64, full: bool) -> Verdict
-    requires { ⌜ reading ≤ 4000000000000 ⌝ }
-    ensures { λ r. ⌜ r ≡ expire full phase reading ⌝ }
+pub fn expire(state: State, reading: u64, full: bool) -> Verdict
+    requires { ⌜ reading ≤ largestReading ⌝ }
+    ensures { λ r. ⌜ r ≡ expire full state reading ⌝ }
 {
-    match phase {
-        Phase::N3 => answered(Reply::None),
-        Phase::N6(_) => ended(Reply::None),
-        Phase::N9(_) => release(reading, false, 102, true),
-        Phase::N10 => answered(Reply::None),
-        Phase::N12(clearing) => expire_clearing(clearing, reading, full),
+    match state {
+        State::N3 => answered(Reply::None),
+        State::N6(_) => ended(Reply::None),
+        State::N9(_) => release(reading, false, 102, true),
+        State::N10 => answered(Reply::None),
+        State::N12(clearing, _) => expire_clearing(clearing, reading, full),
     }
 }

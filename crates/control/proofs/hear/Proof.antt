@@ -1,5 +1,4 @@
--- `control::hear` meets its contract: by the header checks.
--- Assumes nothing.
+-- `control::hear` meets its contract: by what the header checks say. Assumes nothing.
 use borrow.Author.Needs.{needs}
 use mathlib.Core.Path.{sym, _∙_}
 use Rattle.control.proofs.hear.Statement.{statement}

@@ -1,5 +1,4 @@
--- `control::offer` meets its contract: the refusals in their order, and SETUP.
--- Assumes nothing.
+-- `control::offer` meets its contract: the refusals in their order, and SETUP. Assumes nothing.
 use borrow.Author.Needs.{needs}
 use mathlib.Core.Path.{refl, sym, _∙_}
 use borrow.Author.Tests.{ne-eqb}
@@ -13,8 +12,9 @@ refuse-requires : tie.Need-refuse-requires
 refuse-requires c κs = search needs
 
 returns : tie.Need-returns
-returns c = rw (← c .before .before .common-refusal .ensures .0, ne-eqb _ _ (c .before .if1 .taken), ne-eqb _ _ (c .before .if1 .taken))
-    (c .refuse .ensures, refl)
+returns c =
+    let wrong = ne-eqb _ _ (c .before .if1 .taken) in
+    rw (← c .before .before .common-refusal .ensures .0, wrong, wrong) (c .refuse .ensures, refl)
 
 body-refusal-requires : tie.Need-body-refusal-requires
 body-refusal-requires c κs = search needs
@@ -23,7 +23,10 @@ refuse-requires-2 : tie.Need-refuse-requires-2
 refuse-requires-2 c κs = search needs
 
 returns-2 : tie.Need-returns-2
-returns-2 c = rw (sym (c .before .before .before .before .common-refusal .ensures .0) ∙ c .before .before .before .if1 .left, ← c .before .before .body-refusal .ensures .0, ne-eqb _ _ (c .before .if2 .taken), ne-eqb _ _ (c .before .if2 .taken))
+returns-2 c =
+    let r = c .before .before .before in
+    let wrong = ne-eqb _ _ (c .before .if2 .taken) in
+    rw (sym (r .before .common-refusal .ensures .0) ∙ r .if1 .left, ← c .before .before .body-refusal .ensures .0, wrong, wrong)
     (c .refuse2 .ensures, refl)
 
 lowest-empty-requires : tie.Need-lowest-empty-requires
@@ -50,39 +53,61 @@ refuse-requires-4 c κs = search needs
 enum-known-vpci : tie.Need-enum-known-vpci
 enum-known-vpci c = search needs
 
-send-setup-requires : tie.Need-send-setup-requires
-send-setup-requires c κs = let l = c .before .before .before .before .before .before .before .before in
-    let w = l .before .before .before in (
-      rw (c .before .before .before .before .before .before .i .given .1) at (l .lowest-empty .ensures .1),
-      w .before .before .common-refusal .ensures .1 (w .before .if1 .left) .1,
-      w .before .before .common-refusal .ensures .1 (w .before .if1 .left) .0,
-      w .body-refusal .ensures .1 (l .before .before .if2 .left),
-    )
+unused-reference-requires : tie.Need-unused-reference-requires
+unused-reference-requires c κs = search needs
+
+offer-call-requires : tie.Need-offer-call-requires
+offer-call-requires c κs =
+    let s = c .before .before .before .before .before .before in
+    let r = s .before .before .before .before .before .before in
+    r .before .common-refusal .ensures .1 (r .if1 .left) .1
+
+accept-requires : tie.Need-accept-requires
+accept-requires c κs =
+    let s = c .before .before .before .before .before .before .before .before in
+    let b = s .before .before .before .before in
+    let r = b .before .before in
+    (r .before .common-refusal .ensures .1 (r .if1 .left) .0, b .before .body-refusal .ensures .1 (b .if2 .left))
 
 returns-3 : tie.Need-returns-3
-returns-3 c = rw (sym (c .before .before .before .before .before .before .before .before .common-refusal .ensures .0) ∙ c .before .before .before .before .before .before .before .if1 .left, sym (c .before .before .before .before .before .before .body-refusal .ensures .0) ∙ c .before .before .before .before .before .if2 .left, sym (c .before .before .before .lowest-empty .ensures .0) ∙ c .before .enum-told .given .1)
+returns-3 c =
+    let b = c .before .before .before .before .before in
+    rw (
+      sym (b .before .before .before .common-refusal .ensures .0) ∙ b .before .before .if1 .left,
+      sym (b .before .body-refusal .ensures .0) ∙ b .if2 .left,
+      sym (c .before .before .before .lowest-empty .ensures) ∙ c .before .enum-told .given .1,
+    )
     (c .refuse3 .ensures, refl)
 
 returns-4 : tie.Need-returns-4
-returns-4 c = rw (
-  sym (c .before .before .before .before .before .before .before .before .before .before .before .before .common-refusal .ensures .0) ∙ c .before .before .before .before .before .before .before .before .before .before .before .if1 .left,
-  sym (c .before .before .before .before .before .before .before .before .before .before .body-refusal .ensures .0) ∙ c .before .before .before .before .before .before .before .before .before .if2 .left,
-  sym (c .before .before .before .before .before .before .before .lowest-empty .ensures .0) ∙ c .before .before .before .before .before .i .given .1,
-  sym (c .before .before .before .free-pair .ensures) ∙ c .before .enum-told2 .given .1,
-)
+returns-4 c =
+    let s = c .before .before .before .before .before in
+    let b = s .before .before .before .before in
+    rw (
+      sym (b .before .before .before .common-refusal .ensures .0) ∙ b .before .before .if1 .left,
+      sym (b .before .body-refusal .ensures .0) ∙ b .if2 .left,
+      sym (s .before .before .lowest-empty .ensures) ∙ s .i .given .1,
+      sym (c .before .before .before .free-pair .ensures) ∙ c .before .enum-told2 .given .1,
+    )
     (c .refuse4 .ensures, refl)
 
 same-length : tie.Need-same-length
 same-length c = search needs
 
 returns-5 : tie.Need-returns-5
-returns-5 c = rw (
-  sym (c .before .before .before .before .before .before .before .before .before .before .before .before .before .before .before .before .common-refusal .ensures .0) ∙ c .before .before .before .before .before .before .before .before .before .before .before .before .before .before .before .if1 .left,
-  sym (c .before .before .before .before .before .before .before .before .before .before .before .before .before .before .body-refusal .ensures .0) ∙ c .before .before .before .before .before .before .before .before .before .before .before .before .before .if2 .left,
-  sym (c .before .before .before .before .before .before .before .before .before .before .before .lowest-empty .ensures .0) ∙ c .before .before .before .before .before .before .before .before .before .i .given .1,
-  sym (c .before .before .before .before .before .before .before .free-pair .ensures) ∙ c .before .before .before .before .before .vpci .given .1,
-)
-    (c .before .before .send-setup .ensures)
+returns-5 c =
+    let o = c .before .before .before .before in
+    let p = o .before .before .before in
+    let s = p .before .before .before .before in
+    let b = s .before .before .before .before in
+    rw (
+      sym (b .before .before .before .common-refusal .ensures .0) ∙ b .before .before .if1 .left,
+      sym (b .before .body-refusal .ensures .0) ∙ b .if2 .left,
+      sym (s .before .before .lowest-empty .ensures) ∙ s .i .given .1,
+      sym (p .before .before .free-pair .ensures) ∙ p .vpci .given .1,
+      ← o .before .unused-reference .ensures .0,
+    )
+    (rw (o .offer-call .ensures) at (c .before .before .accept .ensures))
 
 pub offer-spec : {M : Type 1} → statement M
 offer-spec =
@@ -102,7 +127,9 @@ offer-spec =
     enum-told-2
     refuse-requires-4
     enum-known-vpci
-    send-setup-requires
+    unused-reference-requires
+    offer-call-requires
+    accept-requires
     returns-3
     returns-4
     same-length

@@ -1,17 +1,13 @@
--- `effects::assign` meets its contract: the slot is set, and its flag.
--- Assumes nothing.
+-- `effects::assign` meets its contract: the slot of the call is made first. Assumes nothing.
 use borrow.Author.Needs.{needs}
 use Rattle.effects.proofs.assign.Statement.{statement}
 use Rattle.effects.proofs.assign.Tie as tie
 
-with-slot-requires : tie.Need-with-slot-requires
-with-slot-requires c κs = search needs
-
-mark-requires : tie.Need-mark-requires
-mark-requires c κs = search needs
+live-requires : tie.Need-live-requires
+live-requires c κs = search needs
 
 returns : tie.Need-returns
-returns c = rw (c .before .with-slot .ensures, c .mark .ensures)
+returns c = rw (c .live .ensures)
 
 pub assign-spec : {M : Type 1} → statement M
-assign-spec = tie.close (tie.spec with-slot-requires mark-requires returns)
+assign-spec = tie.close (tie.spec live-requires returns)

@@ -1,5 +1,4 @@
--- `effects::flag_slot` meets its contract: by the notice.
--- Assumes nothing.
+-- `effects::flag_slot` meets its contract: by the notice. Assumes nothing.
 use borrow.Author.Needs.{needs}
 use borrow.Author.Tests.{eq-eqb, ne-eqb}
 use Rattle.effects.proofs.flag_slot.Statement.{statement}
@@ -11,11 +10,11 @@ none-requires c κs = search needs
 returns : tie.Need-returns
 returns c = rw (eq-eqb _ _ (c .before .if1 .taken)) (c .none .ensures)
 
-mark-requires : tie.Need-mark-requires
-mark-requires c κs = search needs
+only-requires : tie.Need-only-requires
+only-requires c κs = search needs
 
 returns-2 : tie.Need-returns-2
-returns-2 c = rw (ne-eqb _ _ (c .before .if1 .left)) (c .mark .ensures)
+returns-2 c = rw (ne-eqb _ _ (c .before .if1 .left)) (c .only .ensures)
 
 pub flag-slot-spec : {M : Type 1} → statement M
-flag-slot-spec = tie.close (tie.spec none-requires returns mark-requires returns-2)
+flag-slot-spec = tie.close (tie.spec none-requires returns only-requires returns-2)

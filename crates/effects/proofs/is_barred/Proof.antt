@@ -1,5 +1,4 @@
--- `effects::is_barred` meets its contract: by the VCI, and by the permanent pairs.
--- Assumes nothing.
+-- `effects::is_barred` meets its contract: each answer by the test that led to it. Assumes nothing.
 use borrow.Author.Needs.{needs}
 use borrow.Author.Tests.{lt-ltb, le-ltb}
 use Rattle.effects.proofs.is_barred.Statement.{statement}

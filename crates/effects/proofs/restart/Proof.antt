@@ -1,5 +1,4 @@
--- `effects::restart` meets its contract: by what is found of the Restart indicator.
--- Assumes nothing.
+-- `effects::restart` meets its contract: by what is found of the Restart indicator. Assumes nothing.
 use borrow.Author.Needs.{needs}
 use mathlib.Core.Path.{sym, _∙_}
 use Rattle.effects.proofs.restart.Statement.{statement}

@@ -1,19 +1,14 @@
--- `effects::restart_class` meets its contract: all calls, or those of one pair.
--- Assumes nothing.
+-- `effects::restart_class` meets its contract: by the class. Assumes nothing.
 use borrow.Author.Needs.{needs}
-use mathlib.Core.Path.{_∙_}
 use borrow.Author.Tests.{eq-eqb, ne-eqb}
 use Rattle.effects.proofs.restart_class.Statement.{statement}
 use Rattle.effects.proofs.restart_class.Tie as tie
 
-clear-all-requires : tie.Need-clear-all-requires
-clear-all-requires c κs = search needs
-
-after-gone-requires : tie.Need-after-gone-requires
-after-gone-requires c κs = search needs
+restarting-requires : tie.Need-restarting-requires
+restarting-requires c κs = search needs
 
 returns : tie.Need-returns
-returns c = rw (eq-eqb _ _ (c .before .before .if1 .taken)) (c .after-gone .ensures ∙ rw (c .before .clear-all .ensures))
+returns c = rw (eq-eqb _ _ (c .before .if1 .taken)) (c .restarting .ensures)
 
 restart-connection-requires : tie.Need-restart-connection-requires
 restart-connection-requires c κs = search needs
@@ -23,5 +18,4 @@ returns-2 c = rw (ne-eqb _ _ (c .before .if1 .left)) (c .restart-connection .ens
 
 pub restart-class-spec : {M : Type 1} → statement M
 restart-class-spec =
-    tie.close
-    (tie.spec clear-all-requires after-gone-requires returns restart-connection-requires returns-2)
+    tie.close (tie.spec restarting-requires returns restart-connection-requires returns-2)

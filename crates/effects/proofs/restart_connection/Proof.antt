@@ -1,5 +1,4 @@
--- `effects::restart_connection` meets its contract: by what is found of the Connection identifier.
--- Assumes nothing.
+-- `effects::restart_connection` meets its contract: by what is found of the Connection identifier. Assumes nothing.
 use borrow.Author.Needs.{needs}
 use mathlib.Core.Path.{sym, _∙_}
 use Rattle.effects.proofs.restart_connection.Statement.{statement}

@@ -1,5 +1,4 @@
--- `effects::restart_pair` meets its contract: by the VPCI, and by whether the pair is barred.
--- Assumes nothing.
+-- `effects::restart_pair` meets its contract: each answer by the tests on the pair. Assumes nothing.
 use borrow.Author.Needs.{needs}
 use mathlib.Core.Path.{sym, _∙_}
 use Rattle.effects.proofs.restart_pair.Statement.{statement}
@@ -15,24 +14,17 @@ restart-status-requires : tie.Need-restart-status-requires
 restart-status-requires c κs = search needs
 
 returns : tie.Need-returns
-returns c = rw (
-  sym (c .before .before .before .before .knows-vpci .ensures) ∙ c .before .before .before .if1 .taken,
-  sym (c .before .before .is-barred .ensures) ∙ c .before .if2 .taken,
-)
-    (c .restart-status .ensures)
+returns c =
+    let k = c .before .before .before in
+    rw (sym (k .before .knows-vpci .ensures) ∙ k .if1 .taken, sym (c .before .before .is-barred .ensures) ∙ c .before .if2 .taken) (c .restart-status .ensures)
 
-clear-pair-requires : tie.Need-clear-pair-requires
-clear-pair-requires c κs = search needs
-
-after-gone-requires : tie.Need-after-gone-requires
-after-gone-requires c κs = search needs
+restarting-requires : tie.Need-restarting-requires
+restarting-requires c κs = search needs
 
 returns-2 : tie.Need-returns-2
-returns-2 c = rw (
-  sym (c .before .before .before .before .before .knows-vpci .ensures) ∙ c .before .before .before .before .if1 .taken,
-  sym (c .before .before .before .is-barred .ensures) ∙ c .before .before .if2 .left,
-)
-    (c .after-gone .ensures ∙ rw (c .before .clear-pair .ensures))
+returns-2 c =
+    let k = c .before .before .before in
+    rw (sym (k .before .knows-vpci .ensures) ∙ k .if1 .taken, sym (c .before .before .is-barred .ensures) ∙ c .before .if2 .left) (c .restarting .ensures)
 
 restart-status-requires-2 : tie.Need-restart-status-requires-2
 restart-status-requires-2 c κs = search needs
@@ -48,8 +40,7 @@ restart-pair-spec =
     is-barred-requires
     restart-status-requires
     returns
-    clear-pair-requires
-    after-gone-requires
+    restarting-requires
     returns-2
     restart-status-requires-2
     returns-3)

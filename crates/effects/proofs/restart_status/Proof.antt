@@ -1,7 +1,5 @@
--- `effects::restart_status` meets its contract: STATUS on the global reference.
--- Assumes nothing.
+-- `effects::restart_status` meets its contract: STATUS on the global reference. Assumes nothing.
 use borrow.Author.Needs.{needs}
-use mathlib.Core.Path.{_∙_}
 use Rattle.effects.proofs.restart_status.Statement.{statement}
 use Rattle.effects.proofs.restart_status.Tie as tie
 
@@ -12,7 +10,7 @@ replying-requires : tie.Need-replying-requires
 replying-requires c κs = search needs
 
 returns : tie.Need-returns
-returns c = c .replying .ensures ∙ rw (c .before .because .ensures)
+returns c = rw (c .replying .ensures, c .before .because .ensures)
 
 pub restart-status-spec : {M : Type 1} → statement M
 restart-status-spec = tie.close (tie.spec because-requires replying-requires returns)

@@ -22,13 +22,13 @@ enum-known-second c = search needs
 is-call-requires : tie.Need-is-call-requires
 is-call-requires c κs = search needs
 
-same-phase-requires : tie.Need-same-phase-requires
-same-phase-requires c κs = search needs
+same-state-requires : tie.Need-same-state-requires
+same-state-requires c κs = search needs
 
 returns : tie.Need-returns
 returns c =
     let second = c .before .before .before .before .second .given .1 in
-    rw (c .before .before .before .before .before .before .before .first .given .1, second, rw second at (sym (c .before .before .is-call .ensures) ∙ c .before .if1 .taken)) (c .same-phase .ensures)
+    rw (c .before .before .before .before .before .before .before .first .given .1, second, rw second at (sym (c .before .before .is-call .ensures) ∙ c .before .if1 .taken)) (c .same-state .ensures)
 
 returns-2 : tie.Need-returns-2
 returns-2 c = search needs
@@ -51,7 +51,7 @@ is-same-spec =
     enum-told-2
     enum-known-second
     is-call-requires
-    same-phase-requires
+    same-state-requires
     returns
     returns-2
     returns-3

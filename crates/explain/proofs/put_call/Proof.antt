@@ -8,8 +8,8 @@ use Rattle.explain.proofs.put_call.Tie as tie
 slice-aggregate-put-labelled : tie.Need-slice-aggregate-put-labelled
 slice-aggregate-put-labelled c = search needs
 
-state-number-requires : tie.Need-state-number-requires
-state-number-requires c κs = search needs
+number-requires : tie.Need-number-requires
+number-requires c κs = search needs
 
 cast-put-labelled : tie.Need-cast-put-labelled
 cast-put-labelled c = search needs
@@ -47,14 +47,14 @@ returns c =
     let p = c .before .before .before .before .before .before .before .before .before .before .before .before .put-labelled2 .ensures in
     let v = c .before .before .before .before .before .before .put-labelled3 .ensures in
     let t = c .before .before .put-timer .ensures in
-    (rw (← c .before .before .before .before .before .before .before .before .before .before .before .before .before .before .before .before .before .before .before .state-number .ensures) (chain (chain (chain (n .0) (p .0)) (v .0)) (t .0)), (omega arith, omega arith))
+    (rw (← c .before .before .before .before .before .before .before .before .before .before .before .before .before .before .before .before .before .before .before .number .ensures) (chain (chain (chain (n .0) (p .0)) (v .0)) (t .0)), (omega arith, omega arith))
 
 pub put-call-spec : {M : Type 1} → statement M
 put-call-spec =
     tie.close
     (tie.spec
     slice-aggregate-put-labelled
-    state-number-requires
+    number-requires
     cast-put-labelled
     put-labelled-requires
     slice-aggregate-put-labelled-2

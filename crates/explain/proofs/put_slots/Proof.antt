@@ -20,11 +20,17 @@ abbrev μ-loop : tie.MeasureT-loop
 loop-holds : tie.Need-loop-holds Inv-loop μ-loop
 loop-holds c = (search needs, search needs, search needs, search needs, search needs, c .before .before .pre .1, simp length-map at (c .before .before .good .1 .1 .1 .1 .0 .1 .1 .0 .1 .0 .1), shown-none _ _ _ _ _ _)
 
-slot-at-requires : tie.Need-slot-at-requires Inv-loop μ-loop
-slot-at-requires c κs = search needs
+mul-first : tie.Need-mul-first Inv-loop μ-loop
+mul-first c = search needs
 
-slot-at-requires-2 : tie.Need-slot-at-requires-2 Inv-loop μ-loop
-slot-at-requires-2 c κs = search needs
+element-copy-out-first : tie.Need-element-copy-out-first Inv-loop μ-loop
+element-copy-out-first c = search needs
+
+mul-second : tie.Need-mul-second Inv-loop μ-loop
+mul-second c = search needs
+
+element-copy-out-second : tie.Need-element-copy-out-second Inv-loop μ-loop
+element-copy-out-second c = search needs
 
 is-about-requires : tie.Need-is-about-requires Inv-loop μ-loop
 is-about-requires c κs = c .before .before .before .loop .inv .5
@@ -48,7 +54,7 @@ loop-again c =
       search needs,
       l .inv .5,
       l .inv .6,
-      shown-more (l .inv .7) (omega arith) (c .before .before .before .before .before .before .slot-at .ensures) (c .before .before .before .before .before .slot-at2 .ensures) (c .before .before .before .before .is-about .ensures) (c .before .before .put-if .ensures .0),
+      shown-more (l .inv .7) (omega arith) (c .before .before .before .before .is-about .ensures) (c .before .before .put-if .ensures .0),
     )
 
 same-length : tie.Need-same-length Inv-loop μ-loop
@@ -66,8 +72,10 @@ put-slots-spec =
     Inv-loop
     μ-loop
     loop-holds
-    slot-at-requires
-    slot-at-requires-2
+    mul-first
+    element-copy-out-first
+    mul-second
+    element-copy-out-second
     is-about-requires
     put-if-requires
     add-i

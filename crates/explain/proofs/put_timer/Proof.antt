@@ -8,8 +8,8 @@ use Rattle.explain.proofs.put_timer.Tie as tie
 enum-told : tie.Need-enum-told
 enum-told c = search needs
 
-enum-known-phase : tie.Need-enum-known-phase
-enum-known-phase c = search needs
+enum-known-state : tie.Need-enum-known-state
+enum-known-state c = search needs
 
 slice-aggregate-put-labelled : tie.Need-slice-aggregate-put-labelled
 slice-aggregate-put-labelled c = search needs
@@ -17,8 +17,8 @@ slice-aggregate-put-labelled c = search needs
 put-labelled-requires : tie.Need-put-labelled-requires
 put-labelled-requires c κs = search needs
 
-enum-known-phase-2 : tie.Need-enum-known-phase-2
-enum-known-phase-2 c = search needs
+enum-known-state-2 : tie.Need-enum-known-state-2
+enum-known-state-2 c = search needs
 
 slice-aggregate-put-labelled-2 : tie.Need-slice-aggregate-put-labelled-2
 slice-aggregate-put-labelled-2 c = search needs
@@ -29,8 +29,8 @@ put-labelled-requires-2 c κs = search needs
 enum-told-2 : tie.Need-enum-told-2
 enum-told-2 c = search needs
 
-enum-known-phase-3 : tie.Need-enum-known-phase-3
-enum-known-phase-3 c = search needs
+enum-known-state-3 : tie.Need-enum-known-state-3
+enum-known-state-3 c = search needs
 
 slice-aggregate-put-labelled-3 : tie.Need-slice-aggregate-put-labelled-3
 slice-aggregate-put-labelled-3 c = search needs
@@ -45,13 +45,13 @@ same-length : tie.Need-same-length
 same-length c = search needs
 
 returns-2 : tie.Need-returns-2
-returns-2 c = (rw (c .before .before .before .before .before .before .phase .given .1) (c .before .before .put-labelled .ensures .0), (omega arith, omega arith))
+returns-2 c = (rw (c .before .before .before .before .before .before .state .given .1) (c .before .before .put-labelled .ensures .0), (omega arith, omega arith))
 
 same-length-2 : tie.Need-same-length-2
 same-length-2 c = search needs
 
 returns-3 : tie.Need-returns-3
-returns-3 c = (rw (c .before .before .before .before .before .before .phase2 .given .1) (c .before .before .put-labelled2 .ensures .0), (omega arith, omega arith))
+returns-3 c = (rw (c .before .before .before .before .before .before .state2 .given .1) (c .before .before .put-labelled2 .ensures .0), (omega arith, omega arith))
 
 returns-4 : tie.Need-returns-4
 returns-4 c = (rw (c .enum-told2 .given .1) (wrote-none _ _), (omega arith, omega arith))
@@ -60,21 +60,21 @@ same-length-3 : tie.Need-same-length-3
 same-length-3 c = search needs
 
 returns-5 : tie.Need-returns-5
-returns-5 c = (rw (c .before .before .before .before .before .before .phase3 .given .1) (c .before .before .put-labelled3 .ensures .0), (omega arith, omega arith))
+returns-5 c = (rw (c .before .before .before .before .before .before .state3 .given .1) (c .before .before .put-labelled3 .ensures .0), (omega arith, omega arith))
 
 pub put-timer-spec : {M : Type 1} → statement M
 put-timer-spec =
     tie.close
     (tie.spec
     enum-told
-    enum-known-phase
+    enum-known-state
     slice-aggregate-put-labelled
     put-labelled-requires
-    enum-known-phase-2
+    enum-known-state-2
     slice-aggregate-put-labelled-2
     put-labelled-requires-2
     enum-told-2
-    enum-known-phase-3
+    enum-known-state-3
     slice-aggregate-put-labelled-3
     put-labelled-requires-3
     returns

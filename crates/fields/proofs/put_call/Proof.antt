@@ -20,8 +20,8 @@ put-two-requires c κs = search needs
 put-two-requires-2 : tie.Need-put-two-requires-2
 put-two-requires-2 c κs = search needs
 
-put-phase-requires : tie.Need-put-phase-requires
-put-phase-requires c κs = search needs
+put-state-requires : tie.Need-put-state-requires
+put-state-requires c κs = search needs
 
 same-length : tie.Need-same-length
 same-length c = search needs
@@ -33,7 +33,7 @@ returns c =
     let u = v .before .before .before .before in
     let r = u .before .before .before .before in
     let s = r .before .before .before .before in
-    (chain (s .put .ensures .1) (chain (r .put-reference .ensures) (chain (u .put-two .ensures) (chain (v .put-two2 .ensures) (p .put-phase .ensures .0)))), omega arith)
+    (chain (s .put .ensures .1) (chain (r .put-reference .ensures) (chain (u .put-two .ensures) (chain (v .put-two2 .ensures) (p .put-state .ensures .0)))), omega arith)
 
 pub put-call-spec : {M : Type 1} → statement M
 put-call-spec =
@@ -44,6 +44,6 @@ put-call-spec =
     put-reference-requires
     put-two-requires
     put-two-requires-2
-    put-phase-requires
+    put-state-requires
     same-length
     returns)

@@ -7,35 +7,35 @@ use Rattle.judging.proofs.States.{in-N6, off-N6, in-N6or9, off-N6or9, i
 use Rattle.judging.proofs.class_of.Statement.{statement}
 use Rattle.judging.proofs.class_of.Tie as tie
 
-state-number-requires : tie.Need-state-number-requires
-state-number-requires c κs = tt
+number-requires : tie.Need-number-requires
+number-requires c κs = tt
 
 returns : tie.Need-returns
 returns c = let s = c .before .before in
-    rw (c .before .match .keys1) (in-N6 (s .before .args .phase) (Expected CallProceeding) _ (s .state-number .ensures) (c .match2 .keys1))
+    rw (c .before .match .keys1) (in-N6 (s .before .args .state) (Expected CallProceeding) _ (s .number .ensures) (c .match2 .keys1))
 
 returns-2 : tie.Need-returns-2
 returns-2 c = let s = c .before .before in
-    rw (c .before .match .keys1) (off-N6 (s .before .args .phase) (Expected CallProceeding) _ (s .state-number .ensures) (c .match2 .rest .1))
+    rw (c .before .match .keys1) (off-N6 (s .before .args .state) (Expected CallProceeding) _ (s .number .ensures) (c .match2 .rest .1))
 
 returns-3 : tie.Need-returns-3
 returns-3 c = rw (c .match .keys2)
 
 returns-4 : tie.Need-returns-4
 returns-4 c = let s = c .before .before in
-    rw (c .before .match .keys3) (in-N6or9 (s .before .args .phase) (Expected Connect) _ (s .state-number .ensures) (c .match3 .keys1))
+    rw (c .before .match .keys3) (in-N6or9 (s .before .args .state) (Expected Connect) _ (s .number .ensures) (c .match3 .keys1))
 
 returns-5 : tie.Need-returns-5
 returns-5 c = let s = c .before .before in
-    rw (c .before .match .keys3) (off-N6or9 (s .before .args .phase) (Expected Connect) _ (s .state-number .ensures) (c .match3 .rest .1))
+    rw (c .before .match .keys3) (off-N6or9 (s .before .args .state) (Expected Connect) _ (s .number .ensures) (c .match3 .rest .1))
 
 returns-6 : tie.Need-returns-6
 returns-6 c = let s = c .before .before in
-    rw (c .before .match .keys4) (in-N10 (s .before .args .phase) (Expected ConnectAcknowledge) _ (s .state-number .ensures) (c .match4 .keys1))
+    rw (c .before .match .keys4) (in-N10 (s .before .args .state) (Expected ConnectAcknowledge) _ (s .number .ensures) (c .match4 .keys1))
 
 returns-7 : tie.Need-returns-7
 returns-7 c = let s = c .before .before in
-    rw (c .before .match .keys4) (off-N10 (s .before .args .phase) (Expected ConnectAcknowledge) _ (s .state-number .ensures) (c .match4 .rest .1))
+    rw (c .before .match .keys4) (off-N10 (s .before .args .state) (Expected ConnectAcknowledge) _ (s .number .ensures) (c .match4 .rest .1))
 
 returns-8 : tie.Need-returns-8
 returns-8 c = rw (c .match .keys5)
@@ -74,7 +74,7 @@ pub class-of-spec : {M : Type 1} → statement M
 class-of-spec =
     tie.close
     (tie.spec
-    state-number-requires
+    number-requires
     returns
     returns-2
     returns-3

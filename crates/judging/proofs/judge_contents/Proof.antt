@@ -12,14 +12,14 @@ enum-told c = search needs
 add-t6 : tie.Need-add-t6
 add-t6 c = search needs
 
-turned-requires : tie.Need-turned-requires
-turned-requires c κs = search needs
+moved-requires : tie.Need-moved-requires
+moved-requires c κs = search needs
 
 enum-told-2 : tie.Need-enum-told-2
 enum-told-2 c = search needs
 
-turned-requires-2 : tie.Need-turned-requires-2
-turned-requires-2 c κs = search needs
+moved-requires-2 : tie.Need-moved-requires-2
+moved-requires-2 c κs = search needs
 
 enum-told-3 : tie.Need-enum-told-3
 enum-told-3 c = search needs
@@ -55,10 +55,10 @@ status-verdict-requires : tie.Need-status-verdict-requires
 status-verdict-requires c κs = search needs
 
 returns : tie.Need-returns
-returns c = rw (c .before .enum-told .given .1) (c .turned .ensures)
+returns c = rw (c .before .enum-told .given .1) (c .moved .ensures)
 
 returns-2 : tie.Need-returns-2
-returns-2 c = rw (c .before .enum-told2 .given .1) (c .turned2 .ensures)
+returns-2 c = rw (c .before .enum-told2 .given .1) (c .moved2 .ensures)
 
 returns-3 : tie.Need-returns-3
 returns-3 c = rw (c .before .enum-told3 .given .1) (c .answered .ensures)
@@ -81,9 +81,9 @@ judge-contents-spec =
     (tie.spec
     enum-told
     add-t6
-    turned-requires
+    moved-requires
     enum-told-2
-    turned-requires-2
+    moved-requires-2
     enum-told-3
     answered-requires
     enum-told-4

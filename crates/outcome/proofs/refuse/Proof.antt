@@ -1,5 +1,4 @@
--- `outcome::refuse` meets its contract: no flag is set.
--- Assumes nothing.
+-- `outcome::refuse` meets its contract: no flag is set. Assumes nothing.
 use borrow.Author.Needs.{needs}
 use Rattle.outcome.proofs.refuse.Statement.{statement}
 use Rattle.outcome.proofs.refuse.Tie as tie

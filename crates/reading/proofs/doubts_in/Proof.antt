@@ -1,46 +1,50 @@
--- `reading::doubts_in` meets its contract. The loop's invariant: the entries passed are in the array.
+-- `reading::doubts_in` meets its contract. The loop's invariant: the numbers passed are in the array, and zeros behind them.
 -- Assumes nothing.
 use native.Mathlib.Omega.{arith}
-use Prim.Native.Nat.{_-_, _≤_}
-use mathlib.Core.Path.{_≡_, ap, _∙_}
-use lib.ListN.{length, take}
-use Rattle.doubts.specs.Doubts.{doubtsOf}
-use Rattle.provisioning.specs.Provisioning.{entryAt}
-use Rattle.reading.specs.Reading.{entriesIn}
-use Rattle.reading.proofs.Walk.{counted, Filled, filled-none, filled-more, filled-all}
+use Prim.Native.Nat.{ℕ, _-_, _/_, _≤_}
+use mathlib.Core.Path.{_≡_, refl, ap, _∙_}
+use lib.ListN.{take, drop}
+use Rattle.pairs.specs.Pairs.{room, packed}
+use Rattle.pairs.proofs.Places.{Filled, filled-none, filled-more, filled-all}
+use Rattle.reading.specs.Reading.{least, foursIn}
+use Rattle.reading.proofs.Walk.{four-next}
 use borrow.Author.Needs.{needs}
 use Rattle.reading.proofs.doubts_in.Statement.{statement}
 use Rattle.reading.proofs.doubts_in.Tie as tie
 
 abbrev Inv-loop : tie.InvT-loop
-Inv-loop form at n numbers entries₀ k₀ entries k =
-    (k ≤ 64) × (n ≤ 128) × (length numbers ≡ 128) × (length entries ≡ 64) × Filled (entryAt (take n numbers)) 64 entries k
+Inv-loop form at size n numbers₀ k₀ numbers k =
+    (k ≤ n) × (n ≤ room) × (at ≤ 4294967296) × Filled numbers k × (take k numbers ≡ foursIn (drop 3 (drop at form)) k)
 
 abbrev μ-loop : tie.MeasureT-loop
-μ-loop form at n numbers entries₀ k₀ entries k = 64 - k
+μ-loop form at size n numbers₀ k₀ numbers k = n - k
 
-list-in-requires : tie.Need-list-in-requires Inv-loop μ-loop
-list-in-requires c κs = search needs
+two-in-requires : tie.Need-two-in-requires Inv-loop μ-loop
+two-in-requires c κs = search needs
+
+cast-size : tie.Need-cast-size Inv-loop μ-loop
+cast-size c = search needs
+
+least-requires : tie.Need-least-requires Inv-loop μ-loop
+least-requires c κs = search needs
 
 loop-holds : tie.Need-loop-holds Inv-loop μ-loop
-loop-holds c =
-    let few = c .before .list-in .ensures .1 in
-    (search needs, few .0, few .1, search needs, filled-none _ _ _)
+loop-holds c = (search needs, search needs, search needs, filled-none, refl)
 
-array-share-prefix-numbers : tie.Need-array-share-prefix-numbers Inv-loop μ-loop
-array-share-prefix-numbers c = search needs
+mul-four-in : tie.Need-mul-four-in Inv-loop μ-loop
+mul-four-in c = search needs
 
-slice-aggregate-entry-at : tie.Need-slice-aggregate-entry-at Inv-loop μ-loop
-slice-aggregate-entry-at c = counted _ _ (omega arith)
+add-four-in : tie.Need-add-four-in Inv-loop μ-loop
+add-four-in c = search needs
 
-entry-at-requires : tie.Need-entry-at-requires Inv-loop μ-loop
-entry-at-requires c κs = search needs
+four-in-requires : tie.Need-four-in-requires Inv-loop μ-loop
+four-in-requires c κs = search needs
 
-mul-entries : tie.Need-mul-entries Inv-loop μ-loop
-mul-entries c = search needs
+mul-numbers : tie.Need-mul-numbers Inv-loop μ-loop
+mul-numbers c = search needs
 
-array-set-from-entries : tie.Need-array-set-from-entries Inv-loop μ-loop
-array-set-from-entries c = search needs
+array-write-numbers : tie.Need-array-write-numbers Inv-loop μ-loop
+array-write-numbers c = search needs
 
 add-k : tie.Need-add-k Inv-loop μ-loop
 add-k c = search needs
@@ -50,18 +54,26 @@ loop-less c = search needs
 
 loop-again : tie.Need-loop-again Inv-loop μ-loop
 loop-again c =
-    let l = c .before .before .before in (
+    let l = c .before .before in
+    let a = l .before .before .before .before .args in
+    let f = l .loop .inv .3 in (
       search needs,
       search needs,
       search needs,
-      search needs,
-      filled-more _ 64 (l .loop .entries) (l .loop .k) _ (omega arith) (omega arith) (c .entry-at .ensures) (l .loop .inv .4),
+      filled-more (l .loop .numbers) (l .loop .k) (c .four-in .result) (omega arith) f,
+      four-next (drop (a .at) (a .form .now)) (l .loop .numbers) (l .loop .k) (c .four-in .result) (omega arith) (c .four-in .ensures) (l .loop .inv .4),
     )
 
 returns : tie.Need-returns Inv-loop μ-loop
 returns c =
     let l = c .before in
-    ap doubtsOf (filled-all _ 64 (l .loop .entries) (l .loop .k) (omega arith) (omega arith) (l .loop .inv .4) ∙ ap entriesIn (l .before .before .list-in .ensures .0))
+    let a = l .before .before .before .before .args in
+    let f = drop (a .at) (a .form .now) in
+    let filled = l .loop .inv .3 in
+    let n = l .before .least .ensures .0 ∙ ap (λ (size : ℕ). least room (size / 4)) (l .before .before .two-in .ensures) in
+    let e : l .before .least .result ≡ l .loop .k = omega arith in
+    rw e (filled-all (l .loop .numbers) (l .loop .k) (omega arith) filled)
+    ∙ ap packed (l .loop .inv .4 ∙ ap (foursIn (drop 3 f)) (rw e at n))
 
 pub doubts-in-spec : {M : Type 1} → statement M
 doubts-in-spec =
@@ -69,13 +81,15 @@ doubts-in-spec =
     (tie.spec
     Inv-loop
     μ-loop
-    list-in-requires
+    two-in-requires
+    cast-size
+    least-requires
     loop-holds
-    array-share-prefix-numbers
-    slice-aggregate-entry-at
-    entry-at-requires
-    mul-entries
-    array-set-from-entries
+    mul-four-in
+    add-four-in
+    four-in-requires
+    mul-numbers
+    array-write-numbers
     add-k
     loop-less
     loop-again

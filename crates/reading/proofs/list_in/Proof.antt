@@ -11,10 +11,10 @@ use Rattle.reading.proofs.list_in.Statement.{statement}
 use Rattle.reading.proofs.list_in.Tie as tie
 
 abbrev Inv-loop : tie.InvT-loop
-Inv-loop form at most numbers₀ k₀ numbers k = (k ≤ 128) × (at ≤ 4294967296) × (most ≤ 128) × (length numbers ≡ 128) × Listed (drop at form) numbers k
+Inv-loop form at most numbers₀ k₀ numbers k = (k ≤ 16) × (at ≤ 4294967296) × (most ≤ 16) × (length numbers ≡ 16) × Listed (drop at form) numbers k
 
 abbrev μ-loop : tie.MeasureT-loop
-μ-loop form at most numbers₀ k₀ numbers k = 128 - k
+μ-loop form at most numbers₀ k₀ numbers k = 16 - k
 
 loop-holds : tie.Need-loop-holds Inv-loop μ-loop
 loop-holds c = (search needs, search needs, search needs, search needs, listed-none _ _)
@@ -67,7 +67,7 @@ returns c =
     let f = drop (a .at) (a .form .now) in
     let few = c .least .ensures .1 in
     let n = c .least .ensures .0 ∙ ap (λ (size : ℕ). least (a .most) (size / 2)) (c .before .two-in2 .ensures) in
-    (listed-list (a .most) 128 f (l .loop .numbers) (l .loop .k) _ (l .loop .inv .4) (omega arith) (l .loop .inv .3) (omega arith) n, (omega arith, l .loop .inv .3))
+    (listed-list (a .most) 16 f (l .loop .numbers) (l .loop .k) _ (l .loop .inv .4) (omega arith) (l .loop .inv .3) (omega arith) n, (omega arith, l .loop .inv .3))
 
 pub list-in-spec : {M : Type 1} → statement M
 list-in-spec =

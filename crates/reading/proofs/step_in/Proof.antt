@@ -12,11 +12,24 @@ is-begun-requires c κs = search needs
 call-in-requires : tie.Need-call-in-requires
 call-in-requires c κs = search needs
 
+state-in-requires : tie.Need-state-in-requires
+state-in-requires c κs = search needs
+
+live-requires : tie.Need-live-requires
+live-requires c κs = search needs
+
 behind-requires : tie.Need-behind-requires
 behind-requires c κs = search needs
 
 returns : tie.Need-returns
-returns c = rw (sym (c .before .before .before .is-begun .ensures) ∙ c .before .before .if1 .taken, c .before .call-in .ensures) ((refl, c .behind .ensures .0), c .behind .ensures .1)
+returns c =
+    let l = c .before in
+    rw (
+      sym (l .before .before .before .before .is-begun .ensures) ∙ l .before .before .before .if1 .taken,
+      l .live .ensures,
+      l .before .before .call-in .ensures,
+      l .before .state-in .ensures,
+    ) ((refl, c .behind .ensures .0), c .behind .ensures .1)
 
 empty-requires : tie.Need-empty-requires
 empty-requires c κs = search needs
@@ -27,4 +40,4 @@ returns-2 c = rw (sym (c .before .before .is-begun .ensures) ∙ c .before .if1 
 pub step-in-spec : {M : Type 1} → statement M
 step-in-spec =
     tie.close
-    (tie.spec is-begun-requires call-in-requires behind-requires returns empty-requires returns-2)
+    (tie.spec is-begun-requires call-in-requires state-in-requires live-requires behind-requires returns empty-requires returns-2)

@@ -36,7 +36,7 @@ returns c =
     let first = d .behind .ensures .0 in
     let second = e .behind2 .ensures .0 ∙ ap rest first in
     table-parts (a .form .now) _ _ _ _ _ _ (a .pool) 32 (sym second) (sym (c .before .before .before .before .behind3 .ensures .0)) (sym (c .before .before .before .behind4 .ensures .0))
-    (c .before .before .slots-in .ensures) (c .before .doubts-in .ensures) (c .eight-in .ensures)
+    (c .before .before .slots-in .ensures) (c .eight-in .ensures) (c .before .doubts-in .ensures)
 
 pub table-of-spec : {M : Type 1} → statement M
 table-of-spec =

@@ -3,7 +3,7 @@
 use borrow.Author.Needs.{needs}
 use mathlib.Core.Path.{refl, sym, _∙_}
 use borrow.Author.Tests.{ne-eqb}
-use Rattle.refusals.proofs.Holds.{clearable-within}
+use Rattle.refusals.proofs.Holds.{clearable-call}
 use Rattle.refusals.proofs.clear_refusal.Statement.{statement}
 use Rattle.refusals.proofs.clear_refusal.Tie as tie
 
@@ -13,15 +13,12 @@ common-refusal-requires c κs = search needs
 returns : tie.Need-returns
 returns c = (rw (← c .before .common-refusal .ensures .0, ne-eqb _ _ (c .if1 .taken)) refl, λ e. absurd (c .if1 .taken e))
 
-hold-at-requires : tie.Need-hold-at-requires
-hold-at-requires c κs = search needs
-
 unclearable-requires : tie.Need-unclearable-requires
 unclearable-requires c κs = search needs
 
 returns-2 : tie.Need-returns-2
 returns-2 c = let u = c .before .unclearable in (
-  rw (sym (c .before .before .before .before .common-refusal .ensures .0) ∙ c .before .before .before .if1 .left, ← c .before .before .hold-at .ensures .0, ← u .ensures, ne-eqb _ _ (c .if2 .taken)) refl,
+  rw (sym (c .before .before .before .common-refusal .ensures .0) ∙ c .before .before .if1 .left, ← u .ensures, ne-eqb _ _ (c .if2 .taken)) refl,
   λ e. absurd (c .if2 .taken e),
 )
 
@@ -30,12 +27,11 @@ cause-refusal-requires c κs = search needs
 
 returns-3 : tie.Need-returns-3
 returns-3 c = let u = c .before .before .unclearable in
-    let h = c .before .before .before .hold-at in
-    let n = c .before .before .before .before .before .common-refusal in
-    let none = c .before .before .before .before .if1 .left in
+    let n = c .before .before .before .before .common-refusal in
+    let none = c .before .before .before .if1 .left in
     let kept = sym (u .ensures) ∙ c .before .if2 .left in (
-      rw (sym (n .ensures .0) ∙ none, ← h .ensures .0, kept) (c .cause-refusal .ensures .0),
-      λ e. (n .ensures .1 none .0, n .ensures .1 none .1, clearable-within (h .result) (h .ensures .1) kept, c .cause-refusal .ensures .1 e),
+      rw (sym (n .ensures .0) ∙ none, kept) (c .cause-refusal .ensures .0),
+      λ e. (n .ensures .1 none .0, n .ensures .1 none .1, clearable-call (c .before .before .before .before .before .args .hold) kept, c .cause-refusal .ensures .1 e),
     )
 
 pub clear-refusal-spec : {M : Type 1} → statement M
@@ -44,7 +40,6 @@ clear-refusal-spec =
     (tie.spec
     common-refusal-requires
     returns
-    hold-at-requires
     unclearable-requires
     returns-2
     cause-refusal-requires

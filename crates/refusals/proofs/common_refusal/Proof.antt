@@ -15,10 +15,10 @@ returns-3 : tie.Need-returns-3
 returns-3 c = (rw (le-ltb _ _ (c .before .before .if1 .left), eq-eqb _ _ (c .before .if2 .left), lt-ltb _ _ (c .if3 .taken)), (λ e. absurd (omega (arith, e))))
 
 returns-4 : tie.Need-returns-4
-returns-4 c = (rw (le-ltb _ _ (c .before .before .before .before .if1 .left), eq-eqb _ _ (c .before .before .before .if2 .left), le-ltb _ _ (c .before .before .if3 .left), lt-ltb _ _ (c .if4 .taken)), (λ e. absurd (omega (arith, e))))
+returns-4 c = (rw (le-ltb _ _ (c .before .before .before .if1 .left), eq-eqb _ _ (c .before .before .if2 .left), le-ltb _ _ (c .before .if3 .left), lt-ltb _ _ (c .if4 .taken)), (λ e. absurd (omega (arith, e))))
 
 returns-5 : tie.Need-returns-5
-returns-5 c = (rw (le-ltb _ _ (c .before .before .before .before .if1 .left), eq-eqb _ _ (c .before .before .before .if2 .left), le-ltb _ _ (c .before .before .if3 .left), le-ltb _ _ (c .if4 .left)), λ e. (c .before .before .before .before .if1 .left, c .before .before .if3 .left))
+returns-5 c = (rw (le-ltb _ _ (c .before .before .before .if1 .left), eq-eqb _ _ (c .before .before .if2 .left), le-ltb _ _ (c .before .if3 .left), le-ltb _ _ (c .if4 .left)), λ e. (c .before .before .before .if1 .left, c .before .if3 .left))
 
 pub common-refusal-spec : {M : Type 1} → statement M
 common-refusal-spec = tie.close (tie.spec returns returns-2 returns-3 returns-4 returns-5)

@@ -3,7 +3,7 @@
 use borrow.Author.Needs.{needs}
 use mathlib.Core.Path.{refl, sym, _∙_}
 use borrow.Author.Tests.{ne-eqb}
-use Rattle.refusals.proofs.Holds.{connectable-within}
+use Rattle.refusals.proofs.Holds.{connectable-call}
 use Rattle.refusals.proofs.connect_refusal.Statement.{statement}
 use Rattle.refusals.proofs.connect_refusal.Tie as tie
 
@@ -13,21 +13,18 @@ common-refusal-requires c κs = search needs
 returns : tie.Need-returns
 returns c = (rw (← c .before .common-refusal .ensures .0, ne-eqb _ _ (c .if1 .taken)) refl, λ e. absurd (c .if1 .taken e))
 
-hold-at-requires : tie.Need-hold-at-requires
-hold-at-requires c κs = search needs
-
 unconnectable-requires : tie.Need-unconnectable-requires
 unconnectable-requires c κs = search needs
 
 returns-2 : tie.Need-returns-2
-returns-2 c = let n = c .before .before .before .common-refusal in
-    let none = c .before .before .if1 .left in
-    let h = c .before .hold-at in (
-      rw (sym (n .ensures .0) ∙ none, ← h .ensures .0) (c .unconnectable .ensures),
-      λ e. (n .ensures .1 none .0, connectable-within (h .result) (h .ensures .1) (sym (c .unconnectable .ensures) ∙ e)),
+returns-2 c =
+    let n = c .before .before .common-refusal in
+    let none = c .before .if1 .left in (
+      rw (sym (n .ensures .0) ∙ none) (c .unconnectable .ensures),
+      λ e. (n .ensures .1 none .0, connectable-call (c .before .before .before .args .hold) (sym (c .unconnectable .ensures) ∙ e)),
     )
 
 pub connect-refusal-spec : {M : Type 1} → statement M
 connect-refusal-spec =
     tie.close
-    (tie.spec common-refusal-requires returns hold-at-requires unconnectable-requires returns-2)
+    (tie.spec common-refusal-requires returns unconnectable-requires returns-2)

@@ -3,6 +3,7 @@
 use mathlib.Core.Path.{sym, ap, _∙_}
 use borrow.Author.Tests.{le-leb, lt-leb, not-true, not-false}
 use Rattle.provisioning.specs.declared.Provision.{Provision}
+use Rattle.slots.specs.Slots.{slotCount}
 use Rattle.reload.proofs.Answered.{with-own-pool, no-lists, over-limit, doubts-not-kept, not-kept, not-own, all-pass}
 use borrow.Author.Needs.{needs}
 use Rattle.reload.proofs.reload.Statement.{statement}
@@ -18,7 +19,7 @@ returns : tie.Need-returns
 returns c =
     let p = c .before .before .before in
     let lists = ap (λ (x : Provision). x .accepted) (sym (p .provision-of .ensures)) ∙ not-true _ (c .before .if1 .taken) in
-    c .refuse .ensures ∙ no-lists 32 (p .before .before .args .form .now) lists
+    c .refuse .ensures ∙ no-lists slotCount (p .before .before .args .form .now) lists
 
 table-of-requires : tie.Need-table-of-requires
 table-of-requires c κs = search needs
@@ -31,8 +32,8 @@ returns-2 c =
     let t = c .before .before .before in
     let p = t .before .before .before .before in
     let lists = ap (λ (x : Provision). x .accepted) (sym (p .provision-of .ensures)) ∙ not-false _ (t .before .before .if1 .left) in
-    let own = with-own-pool 32 (p .before .before .args .form .now) (p .provision-of .result) (t .table-of .result) (p .provision-of .ensures) (t .table-of .ensures) in
-    c .refuse2 .ensures ∙ over-limit 32 (p .before .before .args .form .now) _ own lists (lt-leb _ _ (c .before .if2 .taken))
+    let own = with-own-pool slotCount (p .before .before .args .form .now) (p .provision-of .result) (t .table-of .result) (p .provision-of .ensures) (t .table-of .ensures) in
+    c .refuse2 .ensures ∙ over-limit slotCount (p .before .before .args .form .now) _ own lists (lt-leb _ _ (c .before .if2 .taken))
 
 are-doubts-kept-requires : tie.Need-are-doubts-kept-requires
 are-doubts-kept-requires c κs = search needs
@@ -46,9 +47,9 @@ returns-3 c =
     let t = d .before .before .before in
     let p = t .before .before .before .before in
     let lists = ap (λ (x : Provision). x .accepted) (sym (p .provision-of .ensures)) ∙ not-false _ (t .before .before .if1 .left) in
-    let own = with-own-pool 32 (p .before .before .args .form .now) (p .provision-of .result) (t .table-of .result) (p .provision-of .ensures) (t .table-of .ensures) in
+    let own = with-own-pool slotCount (p .before .before .args .form .now) (p .provision-of .result) (t .table-of .result) (p .provision-of .ensures) (t .table-of .ensures) in
     c .refuse3 .ensures
-    ∙ doubts-not-kept 32 (p .before .before .args .form .now) _ own lists (le-leb _ _ (d .before .if2 .left))
+    ∙ doubts-not-kept slotCount (p .before .before .args .form .now) _ own lists (le-leb _ _ (d .before .if2 .left))
     (sym (d .are-doubts-kept .ensures) ∙ not-true _ (c .before .if3 .taken))
 
 are-slots-kept-requires : tie.Need-are-slots-kept-requires
@@ -64,9 +65,9 @@ returns-4 c =
     let t = d .before .before .before in
     let p = t .before .before .before .before in
     let lists = ap (λ (x : Provision). x .accepted) (sym (p .provision-of .ensures)) ∙ not-false _ (t .before .before .if1 .left) in
-    let own = with-own-pool 32 (p .before .before .args .form .now) (p .provision-of .result) (t .table-of .result) (p .provision-of .ensures) (t .table-of .ensures) in
+    let own = with-own-pool slotCount (p .before .before .args .form .now) (p .provision-of .result) (t .table-of .result) (p .provision-of .ensures) (t .table-of .ensures) in
     c .refuse4 .ensures
-    ∙ not-kept 32 (p .before .before .args .form .now) _ own lists (le-leb _ _ (d .before .if2 .left))
+    ∙ not-kept slotCount (p .before .before .args .form .now) _ own lists (le-leb _ _ (d .before .if2 .left))
     (sym (d .are-doubts-kept .ensures) ∙ not-false _ (k .before .if3 .left)) (sym (k .are-slots-kept .ensures) ∙ not-true _ (c .before .if4 .taken))
 
 is-own-requires : tie.Need-is-own-requires
@@ -83,9 +84,9 @@ returns-5 c =
     let t = d .before .before .before in
     let p = t .before .before .before .before in
     let lists = ap (λ (x : Provision). x .accepted) (sym (p .provision-of .ensures)) ∙ not-false _ (t .before .before .if1 .left) in
-    let own = with-own-pool 32 (p .before .before .args .form .now) (p .provision-of .result) (t .table-of .result) (p .provision-of .ensures) (t .table-of .ensures) in
+    let own = with-own-pool slotCount (p .before .before .args .form .now) (p .provision-of .result) (t .table-of .result) (p .provision-of .ensures) (t .table-of .ensures) in
     c .refuse5 .ensures
-    ∙ not-own 32 (p .before .before .args .form .now) _ own lists (le-leb _ _ (d .before .if2 .left))
+    ∙ not-own slotCount (p .before .before .args .form .now) _ own lists (le-leb _ _ (d .before .if2 .left))
     (sym (d .are-doubts-kept .ensures) ∙ not-false _ (k .before .if3 .left)) (sym (k .are-slots-kept .ensures) ∙ not-false _ (o .before .if4 .left))
     (sym (o .is-own .ensures) ∙ not-true _ (c .before .if5 .taken))
 
@@ -97,8 +98,8 @@ returns-6 c =
     let t = d .before .before .before in
     let p = t .before .before .before .before in
     let lists = ap (λ (x : Provision). x .accepted) (sym (p .provision-of .ensures)) ∙ not-false _ (t .before .before .if1 .left) in
-    let own = with-own-pool 32 (p .before .before .args .form .now) (p .provision-of .result) (t .table-of .result) (p .provision-of .ensures) (t .table-of .ensures) in
-    all-pass 32 (p .before .before .args .form .now) _ own lists (le-leb _ _ (d .before .if2 .left))
+    let own = with-own-pool slotCount (p .before .before .args .form .now) (p .provision-of .result) (t .table-of .result) (p .provision-of .ensures) (t .table-of .ensures) in
+    all-pass slotCount (p .before .before .args .form .now) _ own lists (le-leb _ _ (d .before .if2 .left))
     (sym (d .are-doubts-kept .ensures) ∙ not-false _ (k .before .if3 .left)) (sym (k .are-slots-kept .ensures) ∙ not-false _ (o .before .if4 .left))
     (sym (o .is-own .ensures) ∙ not-false _ (c .if5 .left))
 

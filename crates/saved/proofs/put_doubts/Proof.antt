@@ -1,37 +1,44 @@
--- `saved::put_doubts` meets its contract. The loop's invariant: the pairs passed are written, at most 4 octets for each.
+-- `saved::put_doubts` meets its contract. The loop's invariant: the pairs passed are written, 4 octets for each.
 -- Assumes nothing.
 use borrow.Author.Needs.{needs}
 use native.Mathlib.Omega.{arith}
 use Prim.Native.Nat.{_+_, _*_, _-_, _≤_}
 use mathlib.Core.Path.{_≡_}
-use lib.ListN.{length, drop, length-map}
-use Rattle.channels.specs.Channels.{noEntry}
+use lib.ListN.{length, drop}
 use Rattle.octets.proofs.Stores.{Begun, begun-none, begun-more, begun-all}
-use Rattle.fields.specs.Fields.{entryOctets}
+use Rattle.pairs.specs.Pairs.{listed}
+use Rattle.pairs.proofs.Places.{Span, span-size, listed-next}
+use Rattle.fields.specs.Fields.{four}
 use Rattle.saved.specs.Form.{joined}
-use Rattle.saved.proofs.Joined.{joined-at, joined-end}
+use Rattle.saved.proofs.Joined.{joined-end}
 use Rattle.saved.proofs.put_doubts.Statement.{statement}
 use Rattle.saved.proofs.put_doubts.Tie as tie
 
 abbrev Inv-loop : tie.InvT-loop
-Inv-loop room₀ at doubts next₀ i₀ room next i =
-    (i ≤ 64) × (next ≤ at + 4 * i) × (length room ≡ length room₀) × (at + 256 ≤ length room₀) × (length (doubts .entries) ≡ 64)
-    × Begun (joined entryOctets (doubts .entries)) (joined entryOctets (drop i (doubts .entries))) room₀ at room next
+Inv-loop room₀ at doubts n next₀ i₀ room next i =
+    (i ≤ n) × (next ≤ at + 4 * i) × (length room ≡ length room₀) × (at + 256 ≤ length room₀) × Span doubts n
+    × Begun (joined four (listed doubts)) (joined four (drop i (listed doubts))) room₀ at room next
 
 abbrev μ-loop : tie.MeasureT-loop
-μ-loop room₀ at doubts next₀ i₀ room next i = 64 - i
+μ-loop room₀ at doubts n next₀ i₀ room next i = n - i
+
+size-requires : tie.Need-size-requires Inv-loop μ-loop
+size-requires c κs = search needs
 
 loop-holds : tie.Need-loop-holds Inv-loop μ-loop
-loop-holds c = (search needs, search needs, search needs, search needs, simp length-map at (c .before .good .1 .1 .0 .1 .1 .0 .1 .0 .1), begun-none _ _ _)
+loop-holds c =
+    let s = c .before .before .args .t3 in
+    let l : length (s .numbers) ≡ 64 = search needs in
+    (search needs, search needs, search needs, search needs, rw (c .size .ensures .0) (span-size s l), begun-none _ _ _)
 
-mul-entry : tie.Need-mul-entry Inv-loop μ-loop
-mul-entry c = search needs
+mul-number : tie.Need-mul-number Inv-loop μ-loop
+mul-number c = search needs
 
-element-copy-out-entry : tie.Need-element-copy-out-entry Inv-loop μ-loop
-element-copy-out-entry c = search needs
+element-copy-out-number : tie.Need-element-copy-out-number Inv-loop μ-loop
+element-copy-out-number c = search needs
 
-put-channel-requires : tie.Need-put-channel-requires Inv-loop μ-loop
-put-channel-requires c κs = search needs
+put-four-requires : tie.Need-put-four-requires Inv-loop μ-loop
+put-four-requires c κs = search needs
 
 add-i : tie.Need-add-i Inv-loop μ-loop
 add-i c = search needs
@@ -42,13 +49,13 @@ loop-less c = search needs
 loop-again : tie.Need-loop-again Inv-loop μ-loop
 loop-again c =
     let l = c .before .before .before .before .before .before in
-    let xs = l .before .before .args .t3 .entries in (
+    let s = l .before .before .before .args .t3 in (
       search needs,
       search needs,
       search needs,
       search needs,
       search needs,
-      begun-more (l .loop .inv .5) (joined-at entryOctets xs (l .loop .i) noEntry (omega arith)) (c .before .before .put-channel .ensures .0),
+      begun-more (l .loop .inv .5) (rw (listed-next s _ (l .loop .i) (l .loop .inv .4) (omega arith))) (c .before .before .put-four .ensures .0),
     )
 
 same-length : tie.Need-same-length Inv-loop μ-loop
@@ -57,8 +64,8 @@ same-length c = search needs
 returns : tie.Need-returns Inv-loop μ-loop
 returns c =
     let l = c .before in
-    let xs = l .before .before .args .t3 .entries in
-    (begun-all (l .loop .inv .5) (joined-end entryOctets xs (l .loop .i) (omega arith)), omega arith)
+    let s = l .before .before .before .args .t3 in
+    (begun-all (l .loop .inv .5) (joined-end four (listed s) (l .loop .i) (omega arith)), omega arith)
 
 pub put-doubts-spec : {M : Type 1} → statement M
 put-doubts-spec =
@@ -66,10 +73,11 @@ put-doubts-spec =
     (tie.spec
     Inv-loop
     μ-loop
+    size-requires
     loop-holds
-    mul-entry
-    element-copy-out-entry
-    put-channel-requires
+    mul-number
+    element-copy-out-number
+    put-four-requires
     add-i
     loop-less
     loop-again

@@ -1,194 +1,146 @@
--- `find_free` meets its contract. The invariants: the ranges passed have no free pair, and the pairs read for them are counted; and, in a range,
--- the VCIs passed are taken. Assumes nothing.
+-- `find_free` meets its contract. The invariants: all marks of the ranges passed are set; and, in a range, those of the VCIs passed.
+-- Assumes nothing.
 use borrow.Author.Needs.{needs}
-use Prim.Native.Nat.{ℕ, _+_, _-_, _*_, _≤_, _<_, zero-le}
-use native.Mathlib.Nat.{le-refl}
-use mathlib.Core.Path.{_≡_, refl, sym, ap, _∙_}
-use mathlib.Core.Bool.{true}
+use Prim.Native.Nat.{ℕ, _+_, _-_, _*_, _≤_, _<_}
+use native.Mathlib.Omega.{arith}
+use mathlib.Core.Path.{_≡_, refl, sym, _∙_}
+use mathlib.Core.Bool.{true, false}
 use lib.ListN.{length, getD, length-map}
 use borrow.Author.Tests.{not-true, not-false}
-use Rattle.channels.specs.Channels.{taken}
 use Rattle.channels.specs.declared.Channel.the-variants.{None}
-use Rattle.channels.proofs.Walk.{zeroRange}
-use Rattle.marks.specs.Marking.{pairsOf}
-use Rattle.marks.specs.declared.Marks.{Marks}
-use Rattle.marks.proofs.Marking.{marks-count}
-use Rattle.search.proofs.Near.{near-offset, near-within, all-pairs, near-taken, near-passed}
-use Rattle.search.proofs.Numbers.{place-fits, next-fits, nearer, next-inside, inside, all-passed, reads-fit, reads-skip, reads-on, offset-fits, vci-fits, vci-next, vci-nearer, vci-above, passed-none, passed-one}
-use Rattle.search.proofs.Walked.{Walked, walked-none, walked-skip, walked-on, walked-found, walked-end}
+use Rattle.search.specs.Marks.{near, rangeAt}
+use Rattle.search.proofs.Near.{near-offset}
+use Rattle.search.proofs.Walked.{few-pairs, passed-one, Full, full-next, walked-found, walked-end, unused-answer, answer}
 use Rattle.search.proofs.find_free.Statement.{statement}
 use Rattle.search.proofs.find_free.Tie as tie
 
 abbrev Inv-loop : tie.InvT-loop
-Inv-loop held doubts pool found₀ reads i range marks first last v₀ found v =
-    (found ≡ None) × (first ≤ v) × ((w : ℕ) → first ≤ w → w < v → taken (held .entries) (doubts .entries) (pool .permanents) (range .vpci) w ≡ true)
+Inv-loop pool found₀ reads n on k range first last v₀ found v =
+    (found ≡ None) × (first ≤ v) × ((o : ℕ) → o < v - first → getD on (k * near + o) false ≡ true)
 
 abbrev μ-loop : tie.MeasureT-loop
-μ-loop held doubts pool found₀ reads i range marks first last v₀ found v = (last + 1) - v
+μ-loop pool found₀ reads n on k range first last v₀ found v = (last + 1) - v
 
 abbrev Inv-search : tie.InvT-search
-Inv-search held doubts pool found₀ reads₀ i₀ found reads i =
-    (i ≤ 4) × (length (pool .ranges) ≡ 4) × (length (pairsOf (held .entries) (doubts .entries) (pool .permanents)) ≡ 104)
-    × (found ≡ None) × (reads ≤ i * 104)
-    × Walked (taken (held .entries) (doubts .entries) (pool .permanents)) (pairsOf (held .entries) (doubts .entries) (pool .permanents)) (pool .ranges) i reads
+Inv-search pool found₀ reads n on k₀ found k = (k ≤ n) × (found ≡ None) × ((j : ℕ) → j < k → Full (pool .ranges) on j)
 
 abbrev μ-search : tie.MeasureT-search
-μ-search held doubts pool found₀ reads₀ i₀ found reads i = 4 - i
+μ-search pool found₀ reads n on k₀ found k = n - k
+
+ranges-used-requires : tie.Need-ranges-used-requires Inv-loop μ-loop Inv-search μ-search
+ranges-used-requires c κs = search needs
+
+returns : tie.Need-returns Inv-loop μ-loop Inv-search μ-search
+returns c = let s = c .before .before in unused-answer (s .args .slots .all) (s .args .doubts) (s .args .t1) (sym (c .if1 .taken) ∙ c .before .ranges-used .ensures .0)
+
+slice-aggregate-mark-pairs : tie.Need-slice-aggregate-mark-pairs Inv-loop μ-loop Inv-search μ-search
+slice-aggregate-mark-pairs c = search needs
+
+mark-pairs-requires : tie.Need-mark-pairs-requires Inv-loop μ-loop Inv-search μ-search
+mark-pairs-requires c κs = (c .before .before .before .ranges-used .ensures .1, refl, refl)
 
 search-holds : tie.Need-search-holds Inv-loop μ-loop Inv-search μ-search
-search-holds c =
-    let a = c .args in (
-      zero-le,
-      simp length-map at (c .good .0 .1 .1 .0 .1 .0 .1),
-      all-pairs (a .held .entries) (a .doubts .entries) (a .t1 .permanents) (simp length-map at (c .good .1 .0 .1 .1 .0 .1 .0 .1))
-          (simp length-map at (c .good .1 .1 .0 .1 .1 .0 .1 .0 .1)) (simp length-map at (c .good .0 .1 .1 .1 .0 .1 .0 .1)),
-      refl,
-      zero-le,
-      walked-none (taken (a .held .entries) (a .doubts .entries) (a .t1 .permanents)) (pairsOf (a .held .entries) (a .doubts .entries) (a .t1 .permanents)) (a .t1 .ranges),
-    )
+search-holds c = (search needs, refl, λ j h. absurd (omega arith))
 
 mul-range : tie.Need-mul-range Inv-loop μ-loop Inv-search μ-search
-mul-range c = place-fits (c .search-test .taken)
+mul-range c = let most = c .before .before .before .before .before .before .before .ranges-used .ensures .1 in search needs
 
 element-copy-out-range : tie.Need-element-copy-out-range Inv-loop μ-loop Inv-search μ-search
-element-copy-out-range c = c .search-test .taken
-
-add-i : tie.Need-add-i Inv-loop μ-loop Inv-search μ-search
-add-i c = next-fits (c .before .search-test .taken)
-
-search-less : tie.Need-search-less Inv-loop μ-loop Inv-search μ-search
-search-less c = nearer (c .before .before .before .search-test .taken)
-
-search-again : tie.Need-search-again Inv-loop μ-loop Inv-search μ-search
-search-again c =
-    let k = c .before .before .before in
-    let s = k .before in
-    let a = s .before .args in
-    let here = k .search-test .taken in (
-      next-inside here,
-      s .search .inv .1,
-      s .search .inv .2,
-      s .search .inv .3,
-      reads-skip (s .search .i) (s .search .reads) 0 (s .search .inv .4),
-      walked-skip (taken (a .held .entries) (a .doubts .entries) (a .t1 .permanents)) (pairsOf (a .held .entries) (a .doubts .entries) (a .t1 .permanents)) (a .t1 .ranges)
-          (s .search .i) (s .search .reads) (inside here (s .search .inv .1)) (c .if1 .taken) (s .search .inv .5),
-    )
-
-read-marks-requires : tie.Need-read-marks-requires Inv-loop μ-loop Inv-search μ-search
-read-marks-requires c κs = tt
-
-add-reads : tie.Need-add-reads Inv-loop μ-loop Inv-search μ-search
-add-reads c =
-    let k = c .before .before .before .before in
-    let s = k .before in
-    let a = s .before .args in
-    let r = getD (a .t1 .ranges) (s .search .i) zeroRange in
-    reads-fit (s .search .i) (s .search .reads) _ (k .search-test .taken) (s .search .inv .4)
-    (marks-count (a .held .entries) (a .doubts .entries) (a .t1 .permanents) r _ (c .read-marks .ensures) ∙ s .search .inv .2)
+element-copy-out-range c = let most = c .before .before .before .before .before .before .before .ranges-used .ensures .1 in search needs
 
 cast-first : tie.Need-cast-first Inv-loop μ-loop Inv-search μ-search
 cast-first c = search needs
 
 near-last-requires : tie.Need-near-last-requires Inv-loop μ-loop Inv-search μ-search
-near-last-requires c κs = tt
+near-last-requires c κs = search needs
 
 loop-holds : tie.Need-loop-holds Inv-loop μ-loop Inv-search μ-search
-loop-holds c =
-    let s = c .before .before .before .before .before .before .before in
-    let a = s .before .args in
-    let r = getD (a .t1 .ranges) (s .search .i) zeroRange in
-    (s .search .inv .3, le-refl (r .first), passed-none (taken (a .held .entries) (a .doubts .entries) (a .t1 .permanents) (r .vpci)) (r .first))
+loop-holds c = (c .before .before .before .before .search .inv .1, search needs, λ o h. absurd (omega arith))
 
-search-less-2 : tie.Need-search-less-2 Inv-loop μ-loop Inv-search μ-search
-search-less-2 c = nearer (c .before .before .before .before .before .before .before .before .search-test .taken)
-
-search-again-2 : tie.Need-search-again-2 Inv-loop μ-loop Inv-search μ-search
-search-again-2 c =
-    let l = c .before in
-    let k = l .before in
-    let m = k .before .before in
-    let n = m .before .before .before .before in
-    let s = n .before in
-    let a = s .before .args in
-    let r = getD (a .t1 .ranges) (s .search .i) zeroRange in
-    let t = taken (a .held .entries) (a .doubts .entries) (a .t1 .permanents) in
-    let es = pairsOf (a .held .entries) (a .doubts .entries) (a .t1 .permanents) in
-    let count = marks-count (a .held .entries) (a .doubts .entries) (a .t1 .permanents) r _ (m .read-marks .ensures) ∙ s .search .inv .2 in
-    let here = n .search-test .taken in (
-      next-inside here,
-      s .search .inv .1,
-      s .search .inv .2,
-      l .loop .inv .0,
-      reads-on (s .search .i) (s .search .reads) _ (s .search .inv .4) count,
-      walked-on t es (a .t1 .ranges) (s .search .i) (s .search .reads) _ (ap (λ (m : Marks). m .reads) (m .read-marks .ensures)) (inside here (s .search .inv .1)) (m .before .if1 .left)
-          (near-passed (a .held .entries) (a .doubts .entries) (a .t1 .permanents) r (s .search .inv .2) (k .near-last .ensures .0) (c .loop-test .left) (l .loop .inv .2))
-          (s .search .inv .5),
-    )
+mul-if2 : tie.Need-mul-if2 Inv-loop μ-loop Inv-search μ-search
+mul-if2 c = search needs
 
 sub-if2 : tie.Need-sub-if2 Inv-loop μ-loop Inv-search μ-search
-sub-if2 c = c .before .loop .inv .1
+sub-if2 c = search needs
 
 cast-if2 : tie.Need-cast-if2 Inv-loop μ-loop Inv-search μ-search
-cast-if2 c = offset-fits _ (c .loop-test .taken) (c .before .before .near-last .ensures .1)
+cast-if2 c = search needs
 
-element-copy-out-if2 : tie.Need-element-copy-out-if2 Inv-loop μ-loop Inv-search μ-search
-element-copy-out-if2 c =
-    let k = c .before .before in
-    let s = k .before .before .before .before .before .before .before in
-    near-offset (getD (s .before .args .t1 .ranges) (s .search .i) zeroRange) (c .loop-test .taken) (k .near-last .ensures .0)
+add-if2 : tie.Need-add-if2 Inv-loop μ-loop Inv-search μ-search
+add-if2 c = search needs
 
-cast-t27 : tie.Need-cast-t27 Inv-loop μ-loop Inv-search μ-search
-cast-t27 c = vci-fits (c .before .before .loop-test .taken) (c .before .before .before .before .near-last .ensures .1)
+array-read-if2 : tie.Need-array-read-if2 Inv-loop μ-loop Inv-search μ-search
+array-read-if2 c =
+    let s = c .before .before .before .before .before .before in
+    let most = s .before .before .before .before .before .before .ranges-used .ensures .1 in
+    let r = rangeAt (s .before .before .before .before .before .before .before .args .t1 .ranges) (s .search .k) in
+    let offset = near-offset r (c .before .loop .inv .1) (c .loop-test .taken) (c .before .before .near-last .ensures .0) in
+    omega arith
+
+cast-t34 : tie.Need-cast-t34 Inv-loop μ-loop Inv-search μ-search
+cast-t34 c = search needs
 
 add-v : tie.Need-add-v Inv-loop μ-loop Inv-search μ-search
-add-v c = vci-next (c .before .before .loop-test .taken) (c .before .before .before .before .near-last .ensures .1)
+add-v c = search needs
 
 loop-less : tie.Need-loop-less Inv-loop μ-loop Inv-search μ-search
-loop-less c = vci-nearer (c .before .before .loop-test .taken)
+loop-less c = search needs
 
 loop-again : tie.Need-loop-again Inv-loop μ-loop Inv-search μ-search
 loop-again c =
-    let l = c .before .before .before in
-    let k = l .before in
-    let s = k .before .before .before .before .before .before .before in
-    let a = s .before .args in
-    let r = getD (a .t1 .ranges) (s .search .i) zeroRange in
-    let mark =
-    near-taken (a .held .entries) (a .doubts .entries) (a .t1 .permanents) r _ (k .before .before .read-marks .ensures) (l .loop .inv .1) (c .before .before .loop-test .taken)
-    (k .near-last .ensures .0) in (
-      l .loop .inv .0,
-      vci-above (l .loop .inv .1),
-      passed-one (taken (a .held .entries) (a .doubts .entries) (a .t1 .permanents) (r .vpci)) (l .loop .inv .2) (sym mark ∙ not-false _ (c .if2 .left)),
-    )
+    let l = c .before .before in
+    let s = l .before .before .before .before .before in
+    let m = s .before .before in
+    let first = rangeAt (m .before .before .before .before .before .args .t1 .ranges) (s .search .k) .first in
+    (l .loop .inv .0, search needs, passed-one (m .mark-pairs .last .1 .1 .1 .1 .0) (s .search .k) first (l .loop .v) (l .loop .inv .1) (l .loop .inv .2) (not-false _ (c .if2 .left)))
 
-returns : tie.Need-returns Inv-loop μ-loop Inv-search μ-search
-returns c =
-    let s = c .before in
-    let a = s .before .args in
-    let t = taken (a .held .entries) (a .doubts .entries) (a .t1 .permanents) in
-    let es = pairsOf (a .held .entries) (a .doubts .entries) (a .t1 .permanents) in
-    let w = walked-end t es (a .t1 .ranges) (s .search .i) (s .search .reads) (all-passed (s .search .inv .1) (c .search-test .left)) (s .search .inv .5) in
-    rw (s .search .inv .3, w .0, w .1)
+add-k : tie.Need-add-k Inv-loop μ-loop Inv-search μ-search
+add-k c = search needs
+
+search-less : tie.Need-search-less Inv-loop μ-loop Inv-search μ-search
+search-less c = search needs
+
+search-again : tie.Need-search-again Inv-loop μ-loop Inv-search μ-search
+search-again c =
+    let l = c .before in
+    let e = l .before .near-last .ensures in
+    let s = c .before .before .before .before .before .before in
+    let past = c .loop-test .left in (
+      search needs,
+      l .loop .inv .0,
+      full-next (s .before .before .before .before .before .before .before .args .t1 .ranges) _ (s .search .k) (s .search .inv .2) (record { fits = rw (e .0) at (e .1); set = λ o h. l .loop .inv .2 o (omega arith) }),
+    )
 
 returns-2 : tie.Need-returns-2 Inv-loop μ-loop Inv-search μ-search
 returns-2 c =
-    let b = c .before .before in
-    let l = b .before in
-    let k = l .before in
-    let m = k .before .before in
-    let n = m .before .before .before .before in
-    let s = n .before in
-    let a = s .before .args in
-    let r = getD (a .t1 .ranges) (s .search .i) zeroRange in
-    let t = taken (a .held .entries) (a .doubts .entries) (a .t1 .permanents) in
-    let es = pairsOf (a .held .entries) (a .doubts .entries) (a .t1 .permanents) in
-    let mark =
-    near-taken (a .held .entries) (a .doubts .entries) (a .t1 .permanents) r _ (m .read-marks .ensures) (l .loop .inv .1) (b .loop-test .taken) (k .near-last .ensures .0) in
-    let w =
-    walked-found t es (a .t1 .ranges) (s .search .i) (s .search .reads) _ (l .loop .v) (ap (λ (m : Marks). m .reads) (m .read-marks .ensures))
-    (inside (n .search-test .taken) (s .search .inv .1)) (l .loop .inv .1) (near-within r (b .loop-test .taken) (k .near-last .ensures .0)) (l .loop .inv .2)
-    (sym mark ∙ not-true _ (c .if2 .taken)) (s .search .inv .5) in
-    rw (w .0, w .1)
+    let s = c .before in
+    let m = s .before .before in
+    let u = m .before .before .before .before in
+    let b = u .before in
+    let a = b .args in
+    let few =
+    few-pairs (a .slots .all) (a .doubts) (a .t1 .permanents) (simp length-map at (b .good .1 .0 .1 .1 .0 .1 .0 .1)) (simp length-map at (b .good .1 .1 .0 .1 .1 .1 .0 .1 .0 .1)) (simp length-map at (b .good .0 .1 .1 .1 .0 .1 .0 .1)) in
+    let none =
+    walked-end (a .slots .all) (a .doubts) (a .t1 .permanents) (a .t1 .ranges) (u .ranges-used .result) _ few (u .ranges-used .ensures .1) (simp length-map at (b .good .0 .1 .1 .0 .1 .0 .1))
+    (m .mark-pairs .ensures .1) (u .ranges-used .ensures .0) (s .search .inv .0) (c .search-test .left) (s .search .inv .2) in
+    answer (a .slots .all) (a .doubts) (a .t1) (u .ranges-used .ensures .0) (m .before .before .before .if1 .left) (s .search .inv .1 ∙ none) (m .mark-pairs .ensures .0)
+
+returns-3 : tie.Need-returns-3 Inv-loop μ-loop Inv-search μ-search
+returns-3 c =
+    let l = c .before .before in
+    let e = l .before .near-last .ensures in
+    let s = l .before .before .before .before .before in
+    let m = s .before .before in
+    let u = m .before .before .before .before in
+    let b = u .before in
+    let a = b .args in
+    let few =
+    few-pairs (a .slots .all) (a .doubts) (a .t1 .permanents) (simp length-map at (b .good .1 .0 .1 .1 .0 .1 .0 .1)) (simp length-map at (b .good .1 .1 .0 .1 .1 .1 .0 .1 .0 .1)) (simp length-map at (b .good .0 .1 .1 .1 .0 .1 .0 .1)) in
+    let found =
+    walked-found (a .slots .all) (a .doubts) (a .t1 .permanents) (a .t1 .ranges) (u .ranges-used .result) _ few (u .ranges-used .ensures .1) (simp length-map at (b .good .0 .1 .1 .0 .1 .0 .1))
+    (m .mark-pairs .ensures .1) (s .search .k) (l .before .before .before .before .search-test .taken) (s .search .inv .2) (e .0) (e .1) (l .loop .inv .1) (c .before .loop-test .taken) (l .loop .inv .2)
+    (not-true _ (c .if2 .taken)) in
+    answer (a .slots .all) (a .doubts) (a .t1) (u .ranges-used .ensures .0) (m .before .before .before .if1 .left) found (m .mark-pairs .ensures .0)
 
 pub find-free-spec : {M : Type 1} → statement M
 find-free-spec =
@@ -198,25 +150,27 @@ find-free-spec =
     μ-loop
     Inv-search
     μ-search
+    ranges-used-requires
+    returns
+    slice-aggregate-mark-pairs
+    mark-pairs-requires
     search-holds
     mul-range
     element-copy-out-range
-    add-i
-    search-less
-    search-again
-    read-marks-requires
-    add-reads
     cast-first
     near-last-requires
     loop-holds
-    search-less-2
-    search-again-2
+    mul-if2
     sub-if2
     cast-if2
-    element-copy-out-if2
-    cast-t27
+    add-if2
+    array-read-if2
+    cast-t34
     add-v
     loop-less
     loop-again
-    returns
-    returns-2)
+    add-k
+    search-less
+    search-again
+    returns-2
+    returns-3)

@@ -4,8 +4,8 @@ use borrow.Author.Needs.{needs}
 use mathlib.Core.Path.{_≡_, sym, ap, _∙_}
 use mathlib.Core.Bool.{false}
 use denote.Ref.{now}
-use Rattle.elements.specs.Values.{bearerIn}
-use Rattle.setup.specs.Setup.{absent, broken, foundIn, chosen, someNamed, isMultipoint, refusedFor}
+use Rattle.setup.specs.Setup.{absent, broken, foundIn, chosen, someNamed, multipointIn, allowedIn, refusedFor}
+use Rattle.setup.specs.declared.Mandated.{Mandated}
 use Rattle.setup.proofs.admit.Statement.{statement}
 use Rattle.setup.proofs.admit.Tie as tie
 
@@ -13,16 +13,13 @@ use Rattle.setup.proofs.admit.Tie as tie
 all-there : (c : tie.Else1) → let a = c .before .before .before .before .before .args in someNamed (chosen absent (foundIn (now (a .m)) (a .from))) ≡ false
 all-there c =
     let n = c .before .before in
-    sym (c .before .some-named .ensures ∙ ap someNamed (n .missing .ensures ∙ ap (chosen absent) (n .before .find-all .ensures))) ∙ c .if1 .left
+    sym (c .before .some-named .ensures ∙ ap someNamed (n .missing .ensures ∙ ap (chosen absent) (n .before .find-all .ensures .0))) ∙ c .if1 .left
 
 all-read : (c : tie.Else2) → let a = c .before .before .before .before .before .before .before .before .args in someNamed (chosen broken (foundIn (now (a .m)) (a .from))) ≡ false
 all-read c =
     let u = c .before .before in
-    sym (c .before .some-named2 .ensures ∙ ap someNamed (u .unreadable .ensures ∙ ap (chosen broken) (u .before .before .before .before .find-all .ensures)))
+    sym (c .before .some-named2 .ensures ∙ ap someNamed (u .unreadable .ensures ∙ ap (chosen broken) (u .before .before .before .before .find-all .ensures .0)))
     ∙ c .if2 .left
-
-to-one-point : (c : tie.Else3) → let a = c .before .before .before .before .before .before .before .before .before .before .before .args in isMultipoint (bearerIn (now (a .m)) (a .from)) ≡ false
-to-one-point c = sym (c .before .is-multipoint .ensures ∙ ap isMultipoint (c .before .before .bearer .ensures)) ∙ c .if3 .left
 
 find-all-requires : tie.Need-find-all-requires
 find-all-requires c κs = search needs
@@ -38,7 +35,7 @@ refused-for-requires c κs = search needs
 
 returns : tie.Need-returns
 returns c = let n = c .before .before .before in
-    let e = n .missing .ensures ∙ ap (chosen absent) (n .before .find-all .ensures) in
+    let e = n .missing .ensures ∙ ap (chosen absent) (n .before .find-all .ensures .0) in
     rw (sym (c .before .before .some-named .ensures ∙ ap someNamed e) ∙ c .before .if1 .taken) (c .refused-for .ensures ∙ ap (refusedFor 96) e)
 
 unreadable-requires : tie.Need-unreadable-requires
@@ -52,54 +49,50 @@ refused-for-requires-2 c κs = search needs
 
 returns-2 : tie.Need-returns-2
 returns-2 c = let u = c .before .before .before in
-    let e = u .unreadable .ensures ∙ ap (chosen broken) (u .before .before .before .before .find-all .ensures) in
+    let e = u .unreadable .ensures ∙ ap (chosen broken) (u .before .before .before .before .find-all .ensures .0) in
     rw (all-there (u .before), sym (c .before .before .some-named2 .ensures ∙ ap someNamed e) ∙ c .before .if2 .taken)
     (c .refused-for2 .ensures ∙ ap (refusedFor 100) e)
 
-bearer-requires : tie.Need-bearer-requires
-bearer-requires c κs = search needs
-
 is-multipoint-requires : tie.Need-is-multipoint-requires
-is-multipoint-requires c κs = search needs
+is-multipoint-requires c κs = c .before .before .before .before .before .before .find-all .ensures .1 .0
 
 refused-requires : tie.Need-refused-requires
 refused-requires c κs = search needs
 
 returns-3 : tie.Need-returns-3
-returns-3 c = let i = c .before .before .before .before in
-    rw (
-      all-there (i .before .before .before),
-      all-read i,
-      sym (c .before .before .is-multipoint .ensures ∙ ap isMultipoint (c .before .before .before .bearer .ensures)) ∙ c .before .if3 .taken,
-    )
-    (c .refused .ensures)
+returns-3 c =
+    let i = c .before .before .before in
+    let f = i .before .before .before .before .before .before in
+    let a = f .before .before .args in
+    let one = c .before .before .is-multipoint .ensures ∙ ap (λ (l : Mandated). multipointIn (now (a .m)) (l .bearer)) (f .find-all .ensures .0) in
+    rw (all-there (i .before .before .before), all-read i, sym one ∙ c .before .if3 .taken) (c .refused .ensures)
 
 is-allowed-requires : tie.Need-is-allowed-requires
-is-allowed-requires c κs = search needs
+is-allowed-requires c κs = c .before .before .before .before .before .before .before .before .find-all .ensures .1 .1
 
 returns-4 : tie.Need-returns-4
-returns-4 c = let i = c .before .before in
-    let b = i .before .before in
-    rw (
-      all-there (b .before .before .before .before),
-      all-read (b .before),
-      to-one-point i,
-      sym (c .before .is-allowed .ensures) ∙ c .if4 .taken,
-    )
+returns-4 c =
+    let j = c .before .before in
+    let i = j .before .before in
+    let f = i .before .before .before .before .before .before in
+    let a = f .before .before .args in
+    let one = j .before .is-multipoint .ensures ∙ ap (λ (l : Mandated). multipointIn (now (a .m)) (l .bearer)) (f .find-all .ensures .0) in
+    let two = c .before .is-allowed .ensures ∙ ap (λ (l : Mandated). allowedIn (now (a .m)) (l .traffic)) (f .find-all .ensures .0) in
+    rw (all-there (i .before .before .before), all-read i, sym one ∙ j .if3 .left, sym two ∙ c .if4 .taken)
 
 refused-requires-2 : tie.Need-refused-requires-2
 refused-requires-2 c κs = search needs
 
 returns-5 : tie.Need-returns-5
-returns-5 c = let i = c .before .before .before in
-    let b = i .before .before in
-    rw (
-      all-there (b .before .before .before .before),
-      all-read (b .before),
-      to-one-point i,
-      sym (c .before .before .is-allowed .ensures) ∙ c .before .if4 .left,
-    )
-    (c .refused2 .ensures)
+returns-5 c =
+    let e = c .before in
+    let j = e .before .before in
+    let i = j .before .before in
+    let f = i .before .before .before .before .before .before in
+    let a = f .before .before .args in
+    let one = j .before .is-multipoint .ensures ∙ ap (λ (l : Mandated). multipointIn (now (a .m)) (l .bearer)) (f .find-all .ensures .0) in
+    let two = e .before .is-allowed .ensures ∙ ap (λ (l : Mandated). allowedIn (now (a .m)) (l .traffic)) (f .find-all .ensures .0) in
+    rw (all-there (i .before .before .before), all-read i, sym one ∙ j .if3 .left, sym two ∙ e .if4 .left) (c .refused2 .ensures)
 
 pub admit-spec : {M : Type 1} → statement M
 admit-spec =
@@ -114,7 +107,6 @@ admit-spec =
     some-named-requires-2
     refused-for-requires-2
     returns-2
-    bearer-requires
     is-multipoint-requires
     refused-requires
     returns-3

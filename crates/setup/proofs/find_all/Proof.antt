@@ -20,7 +20,10 @@ returns : tie.Need-returns
 returns c = let fourth = c in
     let third = fourth .before in
     let second = third .before in
-    rw (second .before .look-for .ensures .0, second .look-for2 .ensures .0, third .look-for3 .ensures .0, fourth .look-for4 .ensures .0)
+    let first = second .before in (
+      rw (first .look-for .ensures .0, second .look-for2 .ensures .0, third .look-for3 .ensures .0, fourth .look-for4 .ensures .0),
+      (third .look-for3 .ensures .1, first .look-for .ensures .1),
+    )
 
 pub find-all-spec : {M : Type 1} → statement M
 find-all-spec =

@@ -1,5 +1,4 @@
--- `table::is_restart` meets its contract: by the type, and by the flag.
--- Assumes nothing.
+-- `table::is_restart` meets its contract: each answer by the test that led to it. Assumes nothing.
 use borrow.Author.Tests.{eq-eqb, ne-eqb}
 use Rattle.table.proofs.is_restart.Statement.{statement}
 use Rattle.table.proofs.is_restart.Tie as tie

@@ -28,8 +28,8 @@ enum-told-4 c = search needs
 answered-requires-2 : tie.Need-answered-requires-2
 answered-requires-2 c κs = search needs
 
-enum-known-phase : tie.Need-enum-known-phase
-enum-known-phase c = search needs
+enum-known-state : tie.Need-enum-known-state
+enum-known-state c = search needs
 
 expire-clearing-requires : tie.Need-expire-clearing-requires
 expire-clearing-requires c κs = search needs
@@ -47,7 +47,7 @@ returns-4 : tie.Need-returns-4
 returns-4 c = rw (c .before .enum-told4 .given .1) (c .answered2 .ensures)
 
 returns-5 : tie.Need-returns-5
-returns-5 c = rw (c .before .before .phase .given .1) (c .expire-clearing .ensures)
+returns-5 c = rw (c .before .before .state .given .1) (c .expire-clearing .ensures)
 
 pub expire-spec : {M : Type 1} → statement M
 expire-spec =
@@ -61,7 +61,7 @@ expire-spec =
     release-requires
     enum-told-4
     answered-requires-2
-    enum-known-phase
+    enum-known-state
     expire-clearing-requires
     returns
     returns-2

@@ -3,11 +3,12 @@
 use borrow.Author.Needs.{needs}
 use Prim.Native.Nat.{_≤_, _-_}
 use native.Mathlib.Omega.{arith}
-use mathlib.Core.Path.{_≡_, refl, sym, _∙_}
+use mathlib.Core.Path.{_≡_, refl, sym, ap, _∙_}
 use lib.ListN.{length, drop, length-map}
 use Rattle.calls.specs.Calls.{isCall, noSlot}
 use Rattle.first.specs.First.{place, placeFrom}
 use Rattle.first.proofs.Search.{place-here, place-not-here, place-nowhere}
+use Rattle.slots.specs.Slots.{spot}
 use Rattle.slots.proofs.Slots.find.Statement.{statement}
 use Rattle.slots.proofs.Slots.find.Tie as tie
 
@@ -33,7 +34,7 @@ returns : tie.Need-returns Inv-loop μ-loop
 returns c =
     let l = c .before .before .before .before in
     let a = l .before .args in
-    (place-here (isCall (a .network) (a .reference)) (a .t1 .all) (l .loop .i) noSlot (omega arith) (sym (c .before .is-call .ensures) ∙ c .if1 .taken) (l .loop .inv .2), omega arith)
+    ap (spot (a .t1 .all)) (place-here (isCall (a .network) (a .reference)) (a .t1 .all) (l .loop .i) noSlot (omega arith) (sym (c .before .is-call .ensures) ∙ c .if1 .taken) (l .loop .inv .2))
 
 add-i : tie.Need-add-i Inv-loop μ-loop
 add-i c = search needs
@@ -53,7 +54,7 @@ loop-again c =
 returns-2 : tie.Need-returns-2 Inv-loop μ-loop
 returns-2 c =
     let a = c .before .before .args in
-    (place-nowhere (isCall (a .network) (a .reference)) (a .t1 .all) (c .before .loop .i) (omega arith) (c .before .loop .inv .2), tt)
+    ap (spot (a .t1 .all)) (place-nowhere (isCall (a .network) (a .reference)) (a .t1 .all) (c .before .loop .i) (omega arith) (c .before .loop .inv .2))
 
 pub find-spec : {M : Type 1} → statement M
 find-spec =

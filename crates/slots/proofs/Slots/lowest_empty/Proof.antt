@@ -33,7 +33,7 @@ returns : tie.Need-returns Inv-loop μ-loop
 returns c =
     let l = c .before .before .before .before in
     let a = l .before .args in
-    (place-here isEmpty (a .t1 .all) (l .loop .i) noSlot (omega arith) (sym (c .before .is-empty .ensures) ∙ c .if1 .taken) (l .loop .inv .2), omega arith)
+    place-here isEmpty (a .t1 .all) (l .loop .i) noSlot (omega arith) (sym (c .before .is-empty .ensures) ∙ c .if1 .taken) (l .loop .inv .2)
 
 add-i : tie.Need-add-i Inv-loop μ-loop
 add-i c = search needs
@@ -53,7 +53,7 @@ loop-again c =
 returns-2 : tie.Need-returns-2 Inv-loop μ-loop
 returns-2 c =
     let a = c .before .before .args in
-    (place-nowhere isEmpty (a .t1 .all) (c .before .loop .i) (omega arith) (c .before .loop .inv .2), tt)
+    place-nowhere isEmpty (a .t1 .all) (c .before .loop .i) (omega arith) (c .before .loop .inv .2)
 
 pub lowest-empty-spec : {M : Type 1} → statement M
 lowest-empty-spec =

@@ -1,18 +1,15 @@
--- `Table::free_pair` meets its contract: the search is handed the pairs held.
--- Assumes nothing.
+-- `Table::free_pair` meets its contract: what the search finds. Assumes nothing.
 use borrow.Author.Needs.{needs}
-use mathlib.Core.Path.{_∙_}
+use Rattle.search.specs.declared.Finding.{Finding}
+use mathlib.Core.Path.{ap}
 use Rattle.table.proofs.Table.free_pair.Statement.{statement}
 use Rattle.table.proofs.Table.free_pair.Tie as tie
 
-held-requires : tie.Need-held-requires
-held-requires c κs = search needs
-
-lowest-free-requires : tie.Need-lowest-free-requires
-lowest-free-requires c κs = search needs
+find-free-requires : tie.Need-find-free-requires
+find-free-requires c κs = search needs
 
 returns : tie.Need-returns
-returns c = c .lowest-free .ensures ∙ rw (c .before .held .ensures)
+returns c = ap (λ (f : Finding). f .found) (c .find-free .ensures)
 
 pub free-pair-spec : {M : Type 1} → statement M
-free-pair-spec = tie.close (tie.spec held-requires lowest-free-requires returns)
+free-pair-spec = tie.close (tie.spec find-free-requires returns)

@@ -1,6 +1,8 @@
--- `Table::heard` meets its contract: by the call reference, and by the slot that it names.
--- Assumes nothing.
+-- `Table::heard` meets its contract: by the call reference, and by the slot that it names. Assumes nothing.
 use borrow.Author.Needs.{needs}
+use Rattle.first.specs.First.{place}
+use Rattle.calls.specs.Calls.{isCall}
+use Rattle.slots.proofs.Spots.{spot-nothing, spot-at}
 use mathlib.Core.Path.{sym, _∙_}
 use borrow.Author.Tests.{eq-eqb, ne-eqb}
 use Rattle.table.proofs.Table.heard.Statement.{statement}
@@ -24,14 +26,25 @@ on-no-call-requires c κs = search needs
 enum-known-i : tie.Need-enum-known-i
 enum-known-i c = search needs
 
-on-call-requires : tie.Need-on-call-requires
-on-call-requires c κs = (rw (c .before .i .given .1) at (c .before .before .before .find .ensures .1), search needs)
+on-slot-requires : tie.Need-on-slot-requires
+on-slot-requires c κs = search needs
 
 returns-2 : tie.Need-returns-2
-returns-2 c = rw (ne-eqb _ _ (c .before .before .before .before .if1 .left), sym (c .before .before .before .find .ensures .0) ∙ c .before .enum-told .given .1) (c .on-no-call .ensures)
+returns-2 c =
+    let f = c .before .before .before in
+    let a = f .before .before .before .before .before .args in
+    let named = place (isCall (a .head .flag) (a .head .reference)) (a .self .slots .all) in
+    let none = spot-nothing (a .self .slots .all) named (sym (f .find .ensures) ∙ c .before .enum-told .given .1) in
+    rw (ne-eqb _ _ (f .before .if1 .left), none) (c .on-no-call .ensures)
 
 returns-3 : tie.Need-returns-3
-returns-3 c = rw (ne-eqb _ _ (c .before .before .before .before .before .if1 .left), sym (c .before .before .before .before .find .ensures .0) ∙ c .before .before .i .given .1) (c .on-call .ensures)
+returns-3 c =
+    let f = c .before .before .before .before in
+    let a = f .before .before .before .before .before .args in
+    let named = place (isCall (a .head .flag) (a .head .reference)) (a .self .slots .all) in
+    let i = c .before .before .i .given .0 in
+    let at = spot-at (a .self .slots .all) named (i .0) (i .1 .0) (sym (f .find .ensures) ∙ c .before .before .i .given .1) in
+    rw (ne-eqb _ _ (f .before .if1 .left), at .0, at .1) (c .on-slot .ensures)
 
 pub heard-spec : {M : Type 1} → statement M
 heard-spec =
@@ -43,6 +56,6 @@ heard-spec =
     enum-told
     on-no-call-requires
     enum-known-i
-    on-call-requires
+    on-slot-requires
     returns-2
     returns-3)

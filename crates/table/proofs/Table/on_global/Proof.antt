@@ -1,5 +1,4 @@
--- `Table::on_global` meets its contract: RESTART with flag 0 goes on, all else is answered.
--- Assumes nothing.
+-- `Table::on_global` meets its contract: each answer by the tests that led to it. Assumes nothing.
 use borrow.Author.Needs.{needs}
 use mathlib.Core.Path.{sym, _∙_}
 use Rattle.table.proofs.Table.on_global.Statement.{statement}
@@ -27,7 +26,9 @@ replying-requires : tie.Need-replying-requires
 replying-requires c κs = search needs
 
 returns-3 : tie.Need-returns-3
-returns-3 c = rw (sym (c .before .before .before .before .is-restart .ensures) ∙ c .before .before .before .if1 .left) (c .replying .ensures ∙ rw (c .before .global-reply .ensures))
+returns-3 c =
+    let r = c .before .before .before in
+    rw (sym (r .before .is-restart .ensures) ∙ r .if1 .left) (c .replying .ensures ∙ rw (c .before .global-reply .ensures))
 
 pub on-global-spec : {M : Type 1} → statement M
 on-global-spec =

@@ -1,5 +1,4 @@
--- `Table::on_no_call` meets its contract: SETUP by its flag and length field, all else is answered.
--- Assumes nothing.
+-- `Table::on_no_call` meets its contract: each answer by the tests that led to it. Assumes nothing.
 use borrow.Author.Needs.{needs}
 use mathlib.Core.Path.{_∙_}
 use borrow.Author.Tests.{eq-eqb, ne-eqb}

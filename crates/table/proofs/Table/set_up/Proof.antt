@@ -1,5 +1,4 @@
--- `Table::set_up` meets its contract: by what the SETUP is admitted as.
--- Assumes nothing.
+-- `Table::set_up` meets its contract: by the admission. Assumes nothing.
 use borrow.Author.Needs.{needs}
 use mathlib.Core.Path.{sym, _∙_}
 use Rattle.table.proofs.Table.set_up.Statement.{statement}

@@ -1,5 +1,4 @@
--- `Table::set_up_admitted` meets its contract: by whether there is an empty slot.
--- Assumes nothing.
+-- `Table::set_up_admitted` meets its contract: by the lowest empty slot. Assumes nothing.
 use borrow.Author.Needs.{needs}
 use mathlib.Core.Path.{sym, _∙_}
 use Rattle.table.proofs.Table.set_up_admitted.Statement.{statement}
@@ -24,13 +23,17 @@ free-pair-requires : tie.Need-free-pair-requires
 free-pair-requires c κs = search needs
 
 set-up-on-requires : tie.Need-set-up-on-requires
-set-up-on-requires c κs = rw (c .before .before .i .given .1) at (c .before .before .before .before .lowest-empty .ensures .1)
+set-up-on-requires c κs = search needs
 
 returns : tie.Need-returns
-returns c = rw (sym (c .before .before .before .before .lowest-empty .ensures .0) ∙ c .before .before .enum-told .given .1) (c .refuse-setup .ensures ∙ rw (c .before .plain-cause .ensures))
+returns c =
+    let e = c .before .before in
+    rw (sym (e .before .before .lowest-empty .ensures) ∙ e .enum-told .given .1) (c .refuse-setup .ensures ∙ rw (c .before .plain-cause .ensures))
 
 returns-2 : tie.Need-returns-2
-returns-2 c = rw (sym (c .before .before .before .before .before .lowest-empty .ensures .0) ∙ c .before .before .before .i .given .1) (c .set-up-on .ensures ∙ rw (c .before .free-pair .ensures))
+returns-2 c =
+    let e = c .before .before .before in
+    rw (sym (e .before .before .lowest-empty .ensures) ∙ e .i .given .1) (c .set-up-on .ensures ∙ rw (c .before .free-pair .ensures))
 
 pub set-up-admitted-spec : {M : Type 1} → statement M
 set-up-admitted-spec =

@@ -1,0 +1,56 @@
+-- What is said of a table.
+--   HasSlots        it has its slots
+--   slotAt          one slot, empty where the table has none
+--   HasCall         slot i holds the live call c in state q
+--   NoneEmpty       no slot is empty
+--   OnPair, Holds, InDoubt, NoneFree     a call holds a pair; some live call does; a pair is in doubt; no permitted pair is free
+-- Assumes nothing.
+use Prim.Native.Nat.{ℕ, _<_}
+use mathlib.Core.Path.{_≡_}
+use mathlib.Core.Logic.{_⊎_}
+use mathlib.Core.Bool.{true}
+use lib.ListN.{length, getD}
+use Rattle.channels.specs.Channels.{permitted}
+use Rattle.pairs.specs.Pairs.{inPairs}
+use Rattle.calls.specs.declared.State.{State}
+use Rattle.calls.specs.declared.Call.{Call}
+use Rattle.calls.specs.declared.Hold.the-variants.{Live}
+use Rattle.calls.specs.declared.Slot.{Slot}
+use Rattle.calls.specs.Calls.{noSlot}
+use Rattle.slots.specs.Slots.{slotCount}
+use Rattle.table.specs.declared.Table.{Table}
+
+-- "The table has the 32 slots of calls"
+abbrev pub HasSlots : Table → Type 0
+HasSlots t = length (t .slots .all) ≡ slotCount
+
+abbrev pub slotAt : Table → ℕ → Slot
+slotAt t i = getD (t .slots .all) i noSlot
+
+abbrev pub HasCall : Table → ℕ → Call → State → Type 0
+HasCall t i c q = slotAt t i .hold ≡ Live c q
+
+-- "no empty slot"
+abbrev pub NoneEmpty : Table → Type 0
+NoneEmpty t = (i : ℕ) → i < slotCount → (c : Call) × ((q : State) × HasCall t i c q)
+
+-- the live call c holds the pair of VPCI p and VCI v
+pub record OnPair (p v : ℕ) (c : Call) : Type 0 where
+  pub vpci : c .vpci ≡ p
+  pub vci : c .vci ≡ v
+
+-- some live call holds the pair
+pub record Holds (t : Table) (p v : ℕ) : Type 0 where
+  pub slot : ℕ
+  pub call : Call
+  pub state : State
+  pub live : HasCall t slot call state
+  pub pair : OnPair p v call
+
+-- document 02, R-2: the pair is in doubt
+abbrev pub InDoubt : Table → ℕ → ℕ → Type 0
+InDoubt t p v = inPairs (t .doubts) p v ≡ true
+
+-- "no permitted pair free": ""free" now means neither held nor in doubt"
+abbrev pub NoneFree : Table → Type 0
+NoneFree t = (p v : ℕ) → permitted (t .pool) p v ≡ true → Holds t p v ⊎ InDoubt t p v
