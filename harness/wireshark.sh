@@ -25,7 +25,7 @@ trap 'rm -rf "$work"' EXIT
 "$trace" names "$2" "$work/answers" | grep "$part" >"$work/ours"
 
 # the events that the capture gives back, and those of the script that are no bad lines
-events='^(start|message|tick|connect|clear|offer|save|reload) '
+events='^(start|message|tick|connect|clear|offer|restart|putback|save|reload) '
 "$trace" script "$work/trace.pcapng" | grep -v '^#' >"$work/back" || true
 grep -av -e '^#' -e '^$' "$2" | paste -d'|' - "$work/answers" | grep -aE "$events" | grep -av '|bad line$' | sed 's/|[^|]*$//' >"$work/events"
 cmp "$work/events" "$work/back"

@@ -2,6 +2,7 @@
 
 mod call;
 mod host;
+mod marks;
 mod message;
 mod pool;
 mod reload;
@@ -9,12 +10,15 @@ mod restart;
 mod save;
 mod setup;
 mod timer;
+mod under_way;
 mod write;
 
 pub use call::{Call, Clearing, Reference, State};
 pub use host::HOST_CAUSES;
+pub use marks::{Marks, MARKS};
 pub use pool::{Pool, Range};
-pub use timer::{T303, T308, T310};
+pub use timer::{T303, T308, T310, T316};
+pub use under_way::{Named, UnderWay, Wanted};
 
 use crate::decode::Pair;
 use crate::rows::Row;
@@ -112,6 +116,10 @@ pub struct Table {
     pub pool: Pool,
     /// The pairs in doubt, ascending by VPCI and then VCI.
     pub doubts: BTreeSet<Pair>,
+    /// The pairs out of service.
+    pub marks: Marks,
+    /// The RESTART that we sent and that waits for its acknowledge.
+    pub under_way: Option<UnderWay>,
 }
 
 impl Table {
@@ -122,6 +130,8 @@ impl Table {
             reading: 0,
             pool: Pool::new(ranges, pairs)?,
             doubts: BTreeSet::new(),
+            marks: Marks::default(),
+            under_way: None,
         })
     }
 
@@ -168,13 +178,37 @@ impl Table {
         self.live().any(|(_, call)| call.pair == pair)
     }
 
-    /// The lowest permitted pair that is neither held nor in doubt.
+    /// The lowest free pair.
     pub fn free_pair(&self) -> Option<Pair> {
-        let free = |pair: &Pair| !self.holds(*pair) && !self.doubts.contains(pair);
-        self.pool.permitted().find(free)
+        self.pool.permitted().find(|&pair| self.leaves_free(pair))
     }
 
-    /// Empties slots and says so. Their pairs are free.
+    /// The pair is neither held nor in doubt nor out of service, and the
+    /// RESTART under way does not name it.
+    fn leaves_free(&self, pair: Pair) -> bool {
+        let taken = self.holds(pair) || self.doubts.contains(&pair);
+        !taken && !self.marks.has(pair) && !self.names(pair)
+    }
+
+    /// The RESTART under way names the pair.
+    pub fn names(&self, pair: Pair) -> bool {
+        let named = self.under_way.map(|under_way| under_way.named);
+        named.is_some_and(|named| named.has(pair))
+    }
+
+    /// Empties the slots of calls on the pairs named and ends their doubts. The
+    /// rows are for some calls and none.
+    fn empty(&mut self, named: Named, (some, none): (Row, Row)) -> Answer {
+        self.doubts.retain(|pair| !named.has(*pair));
+        let bit = |(slot, call): (usize, Call)| u32::from(named.has(call.pair)) << slot;
+        let flags = Flags(self.live().map(bit).sum());
+        if flags == Flags::default() {
+            return Answer::nothing(none);
+        }
+        self.gone(some, flags)
+    }
+
+    /// Empties slots and says so.
     fn gone(&mut self, row: Row, flags: Flags) -> Answer {
         for slot in flags.slots() {
             self.calls[slot] = None;

@@ -1,17 +1,23 @@
 //! Counts how often a script reaches each row of the paper.
 
+mod acknowledges;
 mod answers;
 mod calls;
+mod commands;
 mod doubts;
+mod history;
 mod hosts;
 mod lines;
+mod marks;
 mod refusals;
 mod restarts;
+mod saved_marks;
 mod saves;
 mod setups;
 mod starts;
 mod steps;
 mod timers;
+mod waiting;
 
 use crate::controller::{Answer, Call, Reference, State, Table};
 use crate::decode::{receive, Received};
@@ -124,7 +130,8 @@ pub struct Coverage {
     rows: Rows,
     exchange: Exchange,
     reloaded: Option<Table>,
-    history: doubts::History,
+    doubts: doubts::History,
+    restarts: history::History,
 }
 
 impl Default for Coverage {
@@ -145,11 +152,17 @@ impl Default for Coverage {
         answers::list(&mut rows);
         saves::list(&mut rows);
         doubts::list(&mut rows);
+        commands::list(&mut rows);
+        acknowledges::list(&mut rows);
+        waiting::list(&mut rows);
+        marks::list(&mut rows);
+        saved_marks::list(&mut rows);
         Coverage {
             rows,
             exchange: Exchange::default(),
             reloaded: None,
-            history: doubts::History::default(),
+            doubts: doubts::History::default(),
+            restarts: history::History::default(),
         }
     }
 }
@@ -202,7 +215,13 @@ impl Coverage {
         timers::hit(rows, &seen);
         answers::hit(rows, &seen);
         saves::hit(rows, &seen);
-        doubts::hit(rows, &seen, &mut self.history);
+        doubts::hit(rows, &seen, &mut self.doubts);
+        commands::hit(rows, &seen, &self.restarts);
+        acknowledges::hit(rows, &seen, &self.restarts);
+        waiting::hit(rows, &seen, &self.restarts);
+        marks::hit(rows, &seen, &mut self.restarts);
+        saved_marks::hit(rows, &seen);
+        self.restarts.take(&seen);
     }
 
     /// The table of rows, and a last line on those not reached.

@@ -6,10 +6,12 @@ mod draft;
 mod fields;
 mod lists;
 mod made;
+mod marks;
 mod octets;
+mod restarts;
 
 pub use draft::Draft;
-pub use made::{doubtful, made};
+pub use made::{doubtful, made, marked};
 
 use crate::random::Random;
 
@@ -41,13 +43,29 @@ impl Damage {
     }
 }
 
+/// Damage of a draft in one way.
+type Kind = fn(&Draft) -> Vec<Damage>;
+
+/// The last range with a hundred pairs more, as far as there are so many.
+fn wider(draft: &Draft) -> Draft {
+    let mut draft = draft.clone();
+    if let Some(last) = draft.ranges.last_mut() {
+        *last = last.saturating_add(100);
+    }
+    draft
+}
+
 /// Damage of every kind: every octet and every field, the lists and the
-/// reading, the pairs in doubt, and one of the calls.
+/// reading, the pairs in doubt and out of service, the RESTART under way, and
+/// one of the calls.
 pub fn all(random: &mut Random, draft: &Draft) -> Vec<Damage> {
     let mut list = octets::all(random, draft);
     list.extend(fields::all(draft));
     list.extend(lists::all(draft));
-    list.extend(doubts::all(draft));
+    let kinds = doubts::KINDS.iter().chain(&marks::KINDS);
+    for kind in kinds.chain(&restarts::KINDS) {
+        list.extend(kind(draft));
+    }
     if !draft.calls.is_empty() {
         let place = random.below(draft.calls.len());
         for kind in calls::KINDS {
@@ -61,11 +79,13 @@ pub fn all(random: &mut Random, draft: &Draft) -> Vec<Damage> {
 
 /// Damage of one kind.
 pub fn one(random: &mut Random, draft: &Draft) -> Damage {
-    let mut list = match random.below(24) {
+    let mut list = match random.below(36) {
         0..3 => Vec::new(),
         3..6 => fields::all(draft),
         6..12 => lists::all(draft),
-        12..16 => doubts::all(draft),
+        12..17 => random.pick(&doubts::KINDS)(draft),
+        17..23 => random.pick(&marks::KINDS)(draft),
+        23..27 => random.pick(&restarts::KINDS)(draft),
         _ if draft.calls.is_empty() => Vec::new(),
         _ => random.pick(&calls::KINDS)(draft, random.below(draft.calls.len())),
     };

@@ -60,6 +60,8 @@ impl Exchange {
                 table.clear(request, *slot, *cause)
             }
             (Event::Offer(request, body), Some(table)) => table.offer(request, body),
+            (Event::Restart(request, wanted), Some(table)) => table.send_restart(request, *wanted),
+            (Event::PutBack(request), Some(table)) => table.put_back(request),
             (Event::Save(room), Some(table)) => table.save(*room),
         })
     }

@@ -2,7 +2,7 @@
 //! must hold of its reader and writer is looked at on the way.
 
 use crate::compose::hex;
-use crate::controller::{Answer, Table, READING_LIMIT, T308};
+use crate::controller::{Answer, Table, READING_LIMIT, T308, T316};
 use crate::damage::{all, made, Damage, Draft};
 use crate::exchange::{Exchange, Outcome};
 use crate::generate::Generator;
@@ -149,8 +149,8 @@ impl Forms {
         }
     }
 
-    /// Accepted octets are saved again, and now and then what is due 30,000
-    /// later fires; after refused ones there is no table.
+    /// Accepted octets are saved again, and now and then what is due 30,000 or
+    /// 120,000 later fires; after refused ones there is no table.
     fn again(&mut self, octets: &[u8]) {
         let outcome = self.save(4_096);
         let same = match &outcome {
@@ -169,7 +169,8 @@ impl Forms {
             .table
             .as_ref()
             .map_or(0, |table| table.reading);
-        let reading = READING_LIMIT.min(last + T308);
+        let length = self.random.pick(&[T308, T316]);
+        let reading = READING_LIMIT.min(last + length);
         let tick = format!("tick 1 {reading} 1024").into_bytes();
         while let Outcome::Answer(Answer { more: true, .. }) = self.line(tick.clone()) {}
     }

@@ -5,6 +5,7 @@ mod elements;
 mod hosts;
 mod junk;
 mod messages;
+mod own_restarts;
 mod plan;
 mod requests;
 mod restarts;
@@ -13,10 +14,10 @@ mod starts;
 
 use crate::compose::hex;
 use crate::controller::{Call, Table};
-use crate::damage::doubtful;
+use crate::damage::{doubtful, marked};
 use crate::exchange::{Exchange, Outcome};
 use crate::random::Random;
-use plan::{Class, Plan};
+use plan::{Begins, Class, Plan};
 
 /// A generator of lines.
 #[derive(Clone, Debug)]
@@ -34,7 +35,7 @@ pub struct Generator {
 }
 
 /// One line of so many saves or reloads, with a table and with none.
-const SAVES: usize = 60;
+const SAVES: usize = 40;
 const SAVES_EARLY: usize = 15;
 
 impl Generator {
@@ -90,6 +91,9 @@ impl Generator {
             Class::Clear => self.clear_line(),
             Class::Tick => self.tick_line(),
             Class::Bad => self.bad_line(),
+            Class::OwnRestart => self.restart_line(),
+            Class::Acknowledge => self.message_line(Generator::acknowledge),
+            Class::PutBack => self.put_back_line(),
         }
     }
 
@@ -103,11 +107,15 @@ impl Generator {
         self.plan = Plan::draw(&mut self.random);
         self.left = self.random.within(20, 700);
         let lists = starts::good(&mut self.random, self.plan.supply);
-        self.waiting = Some(if self.plan.doubtful {
-            let draft = doubtful(&mut self.random, lists);
-            format!("reload {}", hex(&draft.octets()))
-        } else {
-            starts::line(&lists)
+        let random = &mut self.random;
+        let draft = match self.plan.begins {
+            Begins::Start => None,
+            Begins::Doubtful => Some(doubtful(random, lists.clone())),
+            Begins::Marked => Some(marked(random, lists.clone())),
+        };
+        self.waiting = Some(match draft {
+            Some(draft) => format!("reload {}", hex(&draft.octets())),
+            None => starts::line(&lists),
         });
         format!("# {}", self.plan.name)
     }

@@ -31,6 +31,15 @@ fn follows(row: Row, before: &Table, after: &Table) -> bool {
         }
         Row::RestartAll | Row::RestartNone => is.is_empty(),
         Row::RestartHeld | Row::RestartFree => was.len() - is.len() <= 1,
+        Row::AcknowledgeHeld
+        | Row::AcknowledgeFree
+        | Row::AcknowledgeAll
+        | Row::AcknowledgeNone
+        | Row::T316Second
+        | Row::T316Gone => {
+            let others = was.into_iter().filter(|pair| !before.names(*pair));
+            is == others.collect::<Vec<Pair>>()
+        }
         _ => was == is,
     }
 }

@@ -88,6 +88,18 @@ fn bad_lines() {
         "message 1 0 1024 0g",
         "message 1 0 1024 --",
         "offer 1 0 1024 090",
+        "restart",
+        "restart 1 0 1024",
+        "restart 1 0 1024 one",
+        "restart 1 0 1024 one 0",
+        "restart 1 0 1024 one 0 32 33",
+        "restart 1 0 1024 one 0 18446744073709551616",
+        "restart 1 0 1024 all 0",
+        "restart 1 0 1024 All",
+        "restart 1 0 1024 0 32",
+        "putback",
+        "putback 1 0",
+        "putback 1 0 1024 0",
         "save",
         "save ",
         "save -",
@@ -115,6 +127,9 @@ fn numbers() {
     assert_eq!(behind(&format!("connect 1 0 1024 {largest}")), "6 - 0 - 0");
     assert_eq!(behind("connect 1 0 1024 4294967296"), "6 - 0 - 0");
     assert_eq!(behind("tick 0001 0000 001024"), "0 - 0 - 0");
+    let wide = format!("restart 1 0 1024 one {largest} {largest}");
+    assert_eq!(behind(&wide), "13 - 0 - 0");
+    assert_eq!(behind("restart 1 0 1024 one 0 65568"), "13 - 0 - 0");
     let zeros = "0".repeat(1_000);
     assert_eq!(behind(&format!("tick {zeros}1 0 1024")), "0 - 0 - 0");
 }
@@ -132,16 +147,27 @@ fn octets() {
     assert_eq!(mixed, behind("message 1 0 1024 0903ABCDEF75800000"));
 }
 
+#[test]
+fn commands() {
+    let all = "0 0903000000468000057980000182 0 - 0";
+    assert_eq!(behind("restart 1 0 1024 all"), all);
+    let one = "0 09030000004680000e79800001805a8000058800000021 0 - 0";
+    assert_eq!(behind("restart 1 0 1024 one 0 033"), one);
+    assert_eq!(behind("putback 1 0 1024"), "0 - 0 - 0");
+    let early = b"restart 1 0 1024 all\nrestart 1 0 1024 one 0 32\nputback 1 0 1024";
+    assert_eq!(run(early), "no table|no table|no table");
+}
+
 /// The form of a table behind the start.
-const FORM: &str = "0100060000002000210200000300080000000000000000050000";
+const FORM: &str = "010006000000200021020000030008000000000000000005000006000100070000";
 
 #[test]
 fn saves() {
     let saved = format!("0 {FORM} 0 - 0");
-    assert_eq!(behind("save 26"), saved);
+    assert_eq!(behind("save 33"), saved);
     assert_eq!(behind("save 018446744073709551615"), saved);
-    assert_eq!(behind("save 25"), "1 - 0 - 0");
-    assert_eq!(behind("save 25\nsave 4096"), format!("1 - 0 - 0|{saved}"));
+    assert_eq!(behind("save 32"), "1 - 0 - 0");
+    assert_eq!(behind("save 32\nsave 4096"), format!("1 - 0 - 0|{saved}"));
     assert_eq!(run(b"save 4096\nsave 0"), "no table|no table");
 }
 

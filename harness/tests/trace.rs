@@ -19,7 +19,8 @@ fn trace(script: &str) -> Vec<Step> {
 const CALL: &str = "# a call\nstart 3 0 32 33 0\n\
     message 1 0 1024 0903000001058000245980000884001000850010005c80000200005e8000028180708000089135353531323334\n\
     connect 1 2000 1024 0\ntick 1 1 1024\nsave 4096\n\
-    message 2 2500 2000 09030000017580\nhold\ntick 1 3000 1024\n";
+    message 2 2500 2000 09030000017580\nhold\ntick 1 3000 1024\n\
+    restart 1 3000 1024 one 0 32\nrestart 1 3000 1024 all\nputback 1 3000 1024\n";
 
 /// The events of a script as it is given back.
 fn events(text: &str) -> Vec<String> {
@@ -72,6 +73,7 @@ fn what_stands_on_the_wire() {
         (false, 0, text("CALL PROCEEDING 1 1 -")),
         (false, 2000, text("CONNECT 1 1 -")),
         (true, 2500, None),
+        (false, 3000, text("RESTART 0 0 -")),
     ];
     assert_eq!(said, right);
     assert_eq!(
@@ -172,6 +174,14 @@ fn the_ladder() {
         (3, "|<- CALL PROCEEDING 1/1, pair 0/32 -| |"),
         (4, "| |- call asked: slot 0 ->|"),
         (5, "2.000 | |<- connect slot 0 -|"),
+        (14, "| |<- restart pair 0/32 -|"),
+        (15, "|<- RESTART 0/0, pair 0/32 -| |"),
+        (16, "| |<- restart all -|"),
+        (
+            17,
+            "| |- refused 13: RESTART under way, or pair not permitted ->|",
+        ),
+        (18, "| |<- put back -|"),
     ] {
         assert_eq!(lines[place], right);
     }

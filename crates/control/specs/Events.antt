@@ -1,5 +1,5 @@
--- The six events (document 01, "One school, network side" and "Host and timers").
---   startOf, messageOf, tickOf, connectOf, clearOf, offerOf
+-- The events (document 01, "One school, network side" and "Host and timers"; document 02, R-4).
+--   startOf, messageOf, tickOf, connectOf, clearOf, offerOf, restartOf, putBackOf
 --   heardBy              what an accepted message does
 --   offeredAt, offered   what an offer does: with a slot and a pair, with a slot
 -- Each event is the whole answer, the table and the reply, on any input. What is refused is in refusals, what connect, clear and offer
@@ -17,17 +17,19 @@ use Rattle.first.specs.declared.Found.{Found}
 use Rattle.first.specs.declared.Found.the-variants.{Nothing, At}
 use Rattle.first.specs.First.{place}
 use Rattle.slots.specs.Slots.{slotCount, holdAt, unusedReference}
-use Rattle.slots.specs.Timers.{someDue}
+use Rattle.service.specs.declared.GlobalState.the-variants.{Null}
+use Rattle.service.specs.Service.{noneOut}
 use Rattle.header.specs.declared.Head.{Head}
 use Rattle.header.specs.declared.Head.the-variants.{Ignored, Is}
 use Rattle.header.specs.Header.{headOf}
 use Rattle.effects.specs.declared.Effect.{Effect}
-use Rattle.effects.specs.Change.{slotsAfter}
 use Rattle.effects.specs.Effect.{quiet}
+use Rattle.restarts.specs.declared.Target.{Target}
+use Rattle.restarts.specs.Own.{namedBy, requested, putBack}
 use Rattle.table.specs.declared.Table.{Table}
-use Rattle.table.specs.Effects.{freePair, messageEffect, tickEffect}
+use Rattle.table.specs.Effects.{freePair, messageEffect, tickEffect, dueAfter}
 use Rattle.outcome.specs.declared.Started.{Started}
-use Rattle.refusals.specs.Refusals.{messageRefusal, commonRefusal, connectRefusal, clearRefusal, offerRefusal}
+use Rattle.refusals.specs.Refusals.{messageRefusal, commonRefusal, connectRefusal, clearRefusal, offerRefusal, restartRefusal}
 use Rattle.outcome.specs.Outcome.{Outcome, sending, acceptedAs, unlessRefused}
 use Rattle.commands.specs.Commands.{connected, cleared, offeredOn}
 
@@ -39,6 +41,8 @@ startOf ranges pairs = record {
     slots = record { all = replicate slotCount noSlot };
     last = 0;
     doubts = noPairs;
+    global = record { state = Null };
+    out = noneOut;
     pool = provision ranges pairs .pool;
   };
 }
@@ -56,7 +60,7 @@ messageOf t label reading room m =
 abbrev pub tickOf : Table → ℕ → ℕ → ℕ → Outcome
 tickOf t label reading room =
     unlessRefused t (commonRefusal (t .last) label reading room)
-    (sending t reading (tickEffect t reading) (someDue reading (slotsAfter (tickEffect t reading .change) (t .slots) .all)) [])
+    (sending t reading (tickEffect t reading) (dueAfter t reading (tickEffect t reading .change)) [])
 
 -- "connect a slot"
 abbrev pub connectOf : Table → ℕ → ℕ → ℕ → ℕ → Outcome
@@ -82,3 +86,13 @@ offered t reading (At i) = offeredAt t reading i (freePair t)
 abbrev pub offerOf : Table → ℕ → ℕ → ℕ → List ℕ → Outcome
 offerOf t label reading room body =
     unlessRefused t (offerRefusal t label reading room body) (sending t reading (offered t reading (place isEmpty (t .slots .all))) false body)
+
+-- document 02, R-4: "The host may restart one pair or all."
+abbrev pub restartOf : Table → ℕ → ℕ → ℕ → Target → Outcome
+restartOf t label reading room target =
+    unlessRefused t (restartRefusal (t .last) label reading room (t .global .state) (t .pool) target)
+    (acceptedAs t reading (requested reading (namedBy target) false))
+
+-- ".. until the host puts all marked pairs back at once"
+abbrev pub putBackOf : Table → ℕ → ℕ → ℕ → Outcome
+putBackOf t label reading room = unlessRefused t (commonRefusal (t .last) label reading room) (acceptedAs t reading putBack)

@@ -1,9 +1,10 @@
-// The controller: six events on a table that goes in by value and comes back by value.
+// The controller: eight events on a table that goes in by value and comes back by value.
 //   start                from lists of permitted ranges and permanent pairs
 //   message              octets from the user
 //   tick                 the clock
 //   connect, clear       the host answers or ends a call
 //   offer                the host offers a call to the user
+//   restart, put_back    the host sends RESTART, and puts the pairs out of service back
 // What they answer is outcome's `Answer` and `Started`.
 // No event has a `requires`: what is wrong with its input is refused by its number. A reply fills the front of the lent
 // room; octets behind it are unchanged. Assumes nothing.
@@ -14,6 +15,10 @@ use header::Head;
 use outcome::Answer;
 use outcome::Started;
 use pairs::Pairs;
+use restarts::Target;
+use service::Global;
+use service::GlobalState;
+use service::OutOfService;
 use slots::Slots;
 use table::Table;
 ghost use mathlib.Core.Path.{_≡_};
@@ -22,7 +27,7 @@ ghost use lib.ListN.{length};
 ghost use Rattle.calls.specs.Timers.{largestReading};
 ghost use Rattle.octets.specs.Octets.{front};
 ghost use Rattle.header.specs.Header.{headOf};
-ghost use Rattle.control.specs.Events.{startOf, heardBy, messageOf, tickOf, connectOf, clearOf, offerOf};
+ghost use Rattle.control.specs.Events.{startOf, heardBy, messageOf, tickOf, connectOf, clearOf, offerOf, restartOf, putBackOf};
 
 // Starts with permitted ranges, three numbers for each, and permanent pairs, two for each.
 pub fn start(ranges: &[u16], pairs: &[u16]) -> Started
@@ -32,10 +37,15 @@ pub fn start(ranges: &[u16], pairs: &[u16]) -> Started
     let pool = provision.pool;
     let slots = Slots::fresh();
     let doubts = Pairs::none();
+    let state = GlobalState::Null;
+    let global = Global { state: state };
+    let out = OutOfService::none();
     let table = Table {
         slots: slots,
         last: 0,
         doubts: doubts,
+        global: global,
+        out: out,
         pool: pool,
     };
     if provision.accepted {
@@ -150,4 +160,33 @@ pub fn offer(table: Table, label: u64, reading: u64, room: &mut [u8], body: &[u8
             }
         },
     }
+}
+
+// The host sends RESTART, for one pair or for all.
+pub fn restart(table: Table, label: u64, reading: u64, room: &mut [u8], target: Target) -> Answer
+    ensures { λ r. ⌜ (r ≡ restartOf table label reading (length (now (room .entry))) target .answer)
+        × (now (room .exit) ≡ front (restartOf table label reading (length (now (room .entry))) target .reply) (now (room .entry))) ⌝ }
+{
+    let global = table.global;
+    let state = global.state;
+    let pool = table.pool;
+    let n = refusals::restart_refusal(table.last, label, reading, room.len(), state, pool, target);
+    if n != 0 {
+        return outcome::refuse(table, n);
+    }
+    let effect = restarts::request(reading, restarts::named_by(target), false);
+    outcome::accept(table, reading, effect, false, b"", room)
+}
+
+// The host puts all pairs that are out of service back.
+pub fn put_back(table: Table, label: u64, reading: u64, room: &mut [u8]) -> Answer
+    ensures { λ r. ⌜ (r ≡ putBackOf table label reading (length (now (room .entry))) .answer)
+        × (now (room .exit) ≡ front (putBackOf table label reading (length (now (room .entry))) .reply) (now (room .entry))) ⌝ }
+{
+    let n = refusals::common_refusal(table.last, label, reading, room.len());
+    if n != 0 {
+        return outcome::refuse(table, n);
+    }
+    let effect = restarts::put_back();
+    outcome::accept(table, reading, effect, false, b"", room)
 }

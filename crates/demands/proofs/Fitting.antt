@@ -14,8 +14,9 @@ use lib.ListN.{length, getD}
 use borrow.Author.Tests.{ltb-false}
 use Rattle.channels.specs.declared.Channel.the-variants.{Pair}
 use Rattle.channels.specs.declared.Named.{Named}
+use Rattle.channels.specs.declared.Named.the-variants as named
+use Rattle.channels.specs.Channels.{permitted}
 use Rattle.channels.proofs.Cases.{by-test, both}
-use Rattle.search.proofs.Free.{free-permitted}
 use Rattle.calls.specs.declared.Clearing.{Clearing}
 use Rattle.calls.specs.declared.State.{State}
 use Rattle.calls.specs.declared.State.the-variants.{N3, N6, N9, N10, N12}
@@ -49,17 +50,23 @@ use Rattle.verdicts.specs.declared.Verdict.{Verdict}
 use Rattle.verdicts.specs.Verdict.{because, lost}
 use Rattle.verdicts.specs.Expiry.{diagnosed, released, waiting, expire}
 use Rattle.judging.specs.Judge.{releaseComplete, releaseReply, statusOf, statusReply, noCallReply, globalReply}
+use Rattle.service.specs.declared.GlobalState.{GlobalState}
+use Rattle.service.specs.declared.GlobalState.the-variants.{Null, RestartRequest}
+use Rattle.service.specs.Service.{globalNumber}
 use Rattle.effects.specs.declared.Effect.{Effect}
+use Rattle.restarts.specs.Own.{namedBy, restartOf}
 use Rattle.table.specs.declared.Table.{Table}
 use Rattle.table.specs.Effects.{freePair, noRoom}
 use Rattle.refusals.specs.Refusals.{orElse, bodyRefusal, slotRefusal, pairRefusal}
 use Rattle.refusals.proofs.Causes.{host-small}
-use Rattle.control.specs.Happens.{Event, message, tick, connect, clear, offer}
+use Rattle.control.specs.Happens.{Event, message, tick, connect, clear, offer, restart, put-back}
 use Rattle.views.specs.Effects.{readingOf, bodyOf, commonOf, ownOf, refusalOf}
 use Rattle.views.proofs.Verdicts as verdict
 use Rattle.views.proofs.View as view
 use Rattle.safety.specs.Sound.{StateSound, by-host, by-timer, Sound, InOctets, ReferencesFit}
+use Rattle.safety.proofs.Tables.{free-permitted}
 use Rattle.safety.proofs.Changes.{head-is}
+use Rattle.safety.proofs.Doubtful.{Nameable, target-nameable, sound-nameable}
 use Rattle.safety.proofs.References.{octets-fit, unused-fits}
 
 -- Causes and states.
@@ -77,9 +84,13 @@ state-fits (N12 k d) = omega arith
 status-fits : (q : State) (n : ℕ) (d : Diagnostic) → n < 128 → FitsDiagnostic d → Fitting (statusOf q n d)
 status-fits q n d small fit = record { state = state-fits q; why = cause-fits n d small fit }
 
--- "Global STATUS shows state 0."
 no-state-fits : (n : ℕ) (d : Diagnostic) → n < 128 → FitsDiagnostic d → Fitting (reply.Status 0 (because n d))
 no-state-fits n d small fit = record { state = omega arith; why = cause-fits n d small fit }
+
+-- "Global STATUS shows state 0."; "now shows Restart Request, 61, while waiting"
+global-state-fits : (g : GlobalState) (n : ℕ) (d : Diagnostic) → n < 128 → FitsDiagnostic d → Fitting (reply.Status (globalNumber g) (because n d))
+global-state-fits Null n d small fit = record { state = omega arith; why = cause-fits n d small fit }
+global-state-fits (RestartRequest which second deadline) n d small fit = record { state = omega arith; why = cause-fits n d small fit }
 
 -- A message on a live call.
 
@@ -146,12 +157,12 @@ no-call-fits m h =
     (verdict.by-cond Fitting (h .whole) _ _ (status-reply-fits (callStateIn m 9)) tt)
     (cause-fits 81 diagnostic.None (omega arith) tt)))
 
-global-fits : (h : Header) → Fitting (globalReply h)
-global-fits h =
+global-fits : (g : GlobalState) (h : Header) → Fitting (globalReply (globalNumber g) h)
+global-fits g h =
     verdict.by-cond Fitting (eqb (h .kind) 0x7D) _ _ tt
     (verdict.by-cond Fitting (eqb (h .kind) 0x4E && h .flag) _ _
-    (no-state-fits 101 (diagnostic.Octet 0x4E) (omega arith) (omega arith))
-    (no-state-fits 81 diagnostic.None (omega arith) tt))
+    (global-state-fits g 101 (diagnostic.Octet 0x4E) (omega arith) (omega arith))
+    (global-state-fits g 81 diagnostic.None (omega arith) tt))
 
 abbrev AdmissionFits : Admission → Type 0
 AdmissionFits Admitted = Unit {0}
@@ -166,12 +177,13 @@ admission-fits m from =
 
 -- RESTART.
 
-declined-fits : (c : ConnectionRead) (n : ℕ) (d : Diagnostic) → ReadFits c → view.Declined c n d → Fitting (reply.Status 0 (because n d))
-declined-fits c n d f view.no-class = no-state-fits 96 (diagnostic.Octet 0x79) (omega arith) (omega arith)
-declined-fits c n d f view.bad-class = no-state-fits 100 (diagnostic.Octet 0x79) (omega arith) (omega arith)
-declined-fits c n d f view.no-pair = no-state-fits 96 (diagnostic.Octet 0x5A) (omega arith) (omega arith)
-declined-fits c n d f view.bad-pair = no-state-fits 100 (diagnostic.Octet 0x5A) (omega arith) (omega arith)
-declined-fits c n d f (view.barred p v e) = let pair : FitsPair p v = rw e at f in no-state-fits 82 (diagnostic.Pair p v) (omega arith) pair
+declined-fits : (g : GlobalState) (c : ConnectionRead) (n : ℕ) (d : Diagnostic) → ReadFits c → view.Declined c n d
+    → Fitting (reply.Status (globalNumber g) (because n d))
+declined-fits g c n d f view.no-class = global-state-fits g 96 (diagnostic.Octet 0x79) (omega arith) (omega arith)
+declined-fits g c n d f view.bad-class = global-state-fits g 100 (diagnostic.Octet 0x79) (omega arith) (omega arith)
+declined-fits g c n d f view.no-pair = global-state-fits g 96 (diagnostic.Octet 0x5A) (omega arith) (omega arith)
+declined-fits g c n d f view.bad-pair = global-state-fits g 100 (diagnostic.Octet 0x5A) (omega arith) (omega arith)
+declined-fits g c n d f (view.barred p v e) = let pair : FitsPair p v = rw e at f in global-state-fits g 82 (diagnostic.Pair p v) (omega arith) pair
 
 acted-fits : (t : Table) (r : RestartRead) (c : ConnectionRead) (which : Named) (a : Reply) → ReadFits c → view.Names t r c which a → Fitting a
 acted-fits t r c which a f (view.all k e y) = tt
@@ -213,6 +225,8 @@ body-room t (tick label reading room) h = omega arith
 body-room t (connect label reading room slot) h = omega arith
 body-room t (clear label reading room slot cause) h = omega arith
 body-room t (offer label reading room body) h = (body-passes body (offer-passes t label reading room body h)) .0
+body-room t (restart label reading room target) h = omega arith
+body-room t (put-back label reading room) h = omega arith
 
 body-offered : (t : Table) (e : Event) → InOctets e → refusalOf t e ≡ 0 → view.IsOffer e → OfferBody (bodyOf e)
 body-offered t e o h (view.is-offer label reading room body) =
@@ -230,15 +244,21 @@ pub record Writable (x : Effect) (body : List ℕ) : Type 0 where
   pub fits : FitsOutgoing (x .outgoing) body
 
 module _ (t : Table) (e : Event) (s : Sound t) (references : ReferencesFit t) (o : InOctets e) (accepted : refusalOf t e ≡ 0) where
+  permitted-fits : (p v : ℕ) → permitted (t .pool) p v ≡ true → FitsPair p v
+  permitted-fits p v ok = let n = s .numbers p v ok in record { vpci = omega (arith, n .0); vci = omega (arith, n .2) }
+
   free-fits : (p v : ℕ) → freePair t ≡ Pair p v → FitsPair p v
-  free-fits p v g =
-      let n = s .numbers p v ((free-permitted (t .slots .all) (t .doubts) (t .pool) p v g) .0) in
-      record { vpci = omega (arith, n .0); vci = omega (arith, n .2) }
+  free-fits p v g = permitted-fits p v (free-permitted t p v g)
+
+  -- our RESTART
+  own-fits : (which : Named) → Nameable (t .pool) which → Fitting (restartOf which)
+  own-fits named.All n = tt
+  own-fits (named.Pair p v) n = permitted-fits p v n
 
   pub does-writable : (x : Effect) → view.Does t e x → Writable x (bodyOf e)
   does-writable x view.nothing = record { reference = omega arith; fits = tt }
   does-writable x (view.no-call m h is) = let f = message-fits e m h o is in record { reference = f .1 .reference; fits = no-call-fits m h }
-  does-writable x (view.global m h is) = record { reference = omega arith; fits = global-fits h }
+  does-writable x (view.global m h is) = record { reference = omega arith; fits = global-fits (t .global .state) h }
   does-writable x (view.refuses m h c is a) =
       let f = message-fits e m h o (is .is-message) in
       let cause : AdmissionFits (Refused c) = rw a at (admission-fits m 9) in
@@ -256,14 +276,21 @@ module _ (t : Table) (e : Event) (s : Sound t) (references : ReferencesFit t) (o
   does-writable x (view.judges m h i c q is f g) =
       let header = message-fits e m h o is in
       record { reference = header .1 .reference; fits = heard-fits (readingOf e) (h .kind) q _ (header .1 .kind) (verdict.heard (readingOf e) m h q) }
-  does-writable x (view.fires i c q is f g) =
+  does-writable x (view.fires i c q is z f g) =
       record { reference = references i c q g; fits = expire-fits (t .last) (readingOf e) (noRoom t) (c .network) q ((s .calls-sound i c q g) .state-sound) }
   does-writable x (view.connects i c q is g n) = record { reference = references i c q g; fits = tt }
   does-writable x (view.clears i cause c q is g host) =
       record { reference = references i c q g; fits = released-fits (readingOf e) false cause false (host-small cause host) }
   does-writable x (view.declines m h n d is a) =
       let f = message-fits e m h o (is .is-message) in
-      record { reference = omega arith; fits = declined-fits (connectionIn m 9) n d (connection-fits m (f .0)) a }
+      record { reference = omega arith; fits = declined-fits (t .global .state) (connectionIn m 9) n d (connection-fits m (f .0)) a }
   does-writable x (view.restarts m h which a is n) =
       let f = message-fits e m h o (is .is-message) in
       record { reference = omega arith; fits = acted-fits t _ (connectionIn m 9) which a (connection-fits m (f .0)) n }
+  does-writable x (view.requests target is w m) =
+      record { reference = omega arith; fits = own-fits (namedBy target) (target-nameable (t .pool) target m) }
+  does-writable x (view.acknowledges m h which second d is g same) = record { reference = omega arith; fits = tt }
+  does-writable x (view.puts-back is) = record { reference = omega arith; fits = tt }
+  does-writable x (view.sends-again which second d is g z full) =
+      record { reference = omega arith; fits = own-fits which (sound-nameable (t .last) (t .pool) which second d (rw g at (s .global-sound))) }
+  does-writable x (view.withdraws which d is g z room) = record { reference = omega arith; fits = tt }

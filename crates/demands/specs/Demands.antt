@@ -4,7 +4,7 @@
 --   DemandThree      calls do not lean on each other
 --   SlipsShutOut     "Slips we have seen"
 -- "The small proved table, marked P" is `SmallTable` of crate safety. `happens t e` is what event e does on table t: the code's
--- contracts say that each of the six events answers this. Assumes nothing.
+-- contracts say that each of the events answers this. Assumes nothing.
 use Prim.Native.Nat.{ℕ, _≤_, _<_}
 use mathlib.Core.Path.{_≡_}
 use mathlib.Core.Logic.{_≢_}

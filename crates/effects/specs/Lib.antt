@@ -1,3 +1,2 @@
 pub mod Change
 pub mod Effect
-pub mod Restart

@@ -1,35 +1,36 @@
 // What an event decides: a small value, without the table in it.
-//   Change                 what becomes of the slots, and of the pairs in doubt
+//   Ending, Change         why a RESTART ends; what becomes of the table
 //   Effect                 a change, and what is sent, with its flag and call reference
 //   replying, quiet        a reply alone; nothing happens
 //   on_call                a verdict on the call of one slot
 //   assign                 a call put into an empty slot
-//   restart                RESTART
 //   flag_slot              the flag of a slot, where a change has a notice
+//   global_after, out_after    what the end of a RESTART makes of ours, and of the pairs out of service
 // Nothing has a `requires`. Assumes nothing.
 use calls::Call;
 use calls::Slot;
 use calls::State;
 use channels::Named;
-use channels::Pool;
-use elements::ConnectionRead;
-use elements::RestartRead;
-use replies::Diagnostic;
 use replies::Outgoing;
 use replies::Reply;
+use service::Global;
+use service::GlobalState;
+use service::OutOfService;
 use slots::Flags;
 use verdicts::Fate;
 use verdicts::Verdict;
 ghost use mathlib.Core.Path.{_≡_};
-ghost use mathlib.Core.Bool.{_||_};
-ghost use lib.Dec.{ltb};
-ghost use Rattle.channels.specs.Channels.{permanent};
-ghost use Rattle.elements.specs.Values.{connectionIn, restartIn};
-ghost use Rattle.effects.specs.Change.{flagged};
+ghost use Rattle.effects.specs.Change.{globalEnded, outEnded, flagged};
 ghost use Rattle.effects.specs.Effect.{fated, replying, quiet, onCall, assigned};
-ghost use Rattle.effects.specs.Restart.{restartStatus, restarting, pairRestart, restartEffect};
 
-// What becomes of the slots and of the pairs in doubt.
+// Why calls and doubts end: a user's RESTART, the acknowledge of ours, or T316 that ran out a second time.
+pub enum Ending {
+    User,
+    Acknowledged,
+    Expired,
+}
+
+// What becomes of the slots, of the pairs in doubt and out of service, and of our RESTART.
 pub enum Change {
     Keep,
     // The slot with this number becomes this, and this notice names it (0: none does).
@@ -37,7 +38,11 @@ pub enum Change {
     // The call of the slot is gone, and its pair is in doubt.
     Doubt(usize, u16, u16),
     // The calls on the pairs that are named are gone, and none of these pairs is in doubt.
-    Restart(Named),
+    Restart(Named, Ending),
+    // Our RESTART names these pairs; if T316 runs a second time, and its deadline.
+    Request(Named, bool, u64),
+    // No pair is out of service.
+    PutBack,
 }
 
 // What an event does. What it sends carries this flag and call reference.
@@ -56,6 +61,32 @@ pub fn flag_slot(notice: u8, slot: usize) -> Flags
         return Flags::none();
     }
     Flags::only(slot)
+}
+
+// A RESTART of ours is under way no more, if it was ours that ended.
+pub fn global_after(why: Ending, global: Global) -> Global
+    ensures { λ r. ⌜ r ≡ globalEnded why global ⌝ }
+{
+    match why {
+        Ending::User => global,
+        Ending::Acknowledged => Global {
+            state: GlobalState::Null,
+        },
+        Ending::Expired => Global {
+            state: GlobalState::Null,
+        },
+    }
+}
+
+// The pairs that are named are out of service, if T316 ran out.
+pub fn out_after(why: Ending, named: Named, out: OutOfService) -> OutOfService
+    ensures { λ r. ⌜ r ≡ outEnded why named out ⌝ }
+{
+    match why {
+        Ending::User => out,
+        Ending::Acknowledged => out,
+        Ending::Expired => out.with(named),
+    }
 }
 
 // A reply alone.
@@ -112,81 +143,5 @@ pub fn assign(i: usize, call: Call, state: State, flag: bool, outgoing: Outgoing
         flag: flag,
         reference: call.reference,
         outgoing: outgoing,
-    }
-}
-
-// STATUS on the global reference, in answer to a RESTART.
-fn restart_status(number: u8, diagnostic: Diagnostic) -> Effect
-    ensures { λ r. ⌜ r ≡ restartStatus number diagnostic ⌝ }
-{
-    replying(
-        true,
-        0,
-        Reply::Status(0, verdicts::because(number, diagnostic)),
-    )
-}
-
-// Calls are gone and doubts end, for a RESTART.
-fn restarting(named: Named, reply: Reply) -> Effect
-    ensures { λ r. ⌜ r ≡ restarting named reply ⌝ }
-{
-    Effect {
-        change: Change::Restart(named),
-        flag: true,
-        reference: 0,
-        outgoing: Outgoing::Reply(reply),
-    }
-}
-
-// A pair that no RESTART is acted on.
-fn is_barred(pool: Pool, vpci: u16, vci: u16) -> bool
-    ensures { λ r. ⌜ r ≡ (ltb vci 32 || permanent pool vpci vci) ⌝ }
-{
-    if vci < 32 {
-        return true;
-    }
-    pool.is_permanent(vpci, vci)
-}
-
-fn restart_pair(pool: Pool, vpci: u16, vci: u16) -> Effect
-    ensures { λ r. ⌜ r ≡ pairRestart pool (ConnectionRead.Pair vpci vci) ⌝ }
-{
-    if pool.knows_vpci(vpci) {
-        if is_barred(pool, vpci, vci) {
-            return restart_status(82, Diagnostic::Pair(vpci, vci));
-        }
-        return restarting(Named::Pair(vpci, vci), Reply::RestartAcknowledge(vpci, vci));
-    }
-    restart_status(100, Diagnostic::Octet(0x5A))
-}
-
-// For 80: the pair of the Connection identifier.
-fn restart_connection(pool: Pool, m: &[u8]) -> Effect
-    ensures { λ r. ⌜ r ≡ pairRestart pool (connectionIn (now (m .entry)) 9) ⌝ }
-{
-    match elements::connection(m, 9) {
-        ConnectionRead::Absent => restart_status(96, Diagnostic::Octet(0x5A)),
-        ConnectionRead::Unreadable => restart_status(100, Diagnostic::Octet(0x5A)),
-        ConnectionRead::Pair(vpci, vci) => restart_pair(pool, vpci, vci),
-    }
-}
-
-fn restart_class(pool: Pool, m: &[u8], class: u8) -> Effect
-    ensures { λ r. ⌜ r ≡ restartEffect pool (RestartRead.Class class) (connectionIn (now (m .entry)) 9) ⌝ }
-{
-    if class == 0x82 {
-        return restarting(Named::All, Reply::RestartAcknowledgeAll);
-    }
-    restart_connection(pool, m)
-}
-
-// RESTART, by its elements.
-pub fn restart(pool: Pool, m: &[u8]) -> Effect
-    ensures { λ r. ⌜ r ≡ restartEffect pool (restartIn (now (m .entry)) 9) (connectionIn (now (m .entry)) 9) ⌝ }
-{
-    match elements::restart(m, 9) {
-        RestartRead::Absent => restart_status(96, Diagnostic::Octet(0x79)),
-        RestartRead::Unreadable => restart_status(100, Diagnostic::Octet(0x79)),
-        RestartRead::Class(class) => restart_class(pool, m, class),
     }
 }

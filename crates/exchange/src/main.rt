@@ -11,6 +11,7 @@ mod texts;
 use lines::Chunk;
 use outcome::Answer;
 use outcome::Started;
+use restarts::Target;
 use script::Clock;
 use script::Line;
 use script::List;
@@ -105,6 +106,21 @@ fn ask(table: Table, clock: Clock, request: Request, octets: &[u8], room: &mut [
             cause,
         ),
         Request::Offer(n) => control::offer(table, clock.label, clock.reading, room, &octets[0..n]),
+        Request::RestartAll => control::restart(
+            table,
+            clock.label,
+            clock.reading,
+            room,
+            Target::All,
+        ),
+        Request::RestartOne(vpci, vci) => control::restart(
+            table,
+            clock.label,
+            clock.reading,
+            room,
+            Target::One(vpci, vci),
+        ),
+        Request::PutBack => control::put_back(table, clock.label, clock.reading, room),
     }
 }
 

@@ -32,7 +32,7 @@ use Rattle.calls.specs.declared.Due.the-variants.{Never, At}
 use Rattle.calls.specs.Calls.{stateNumber, noSlot, emptyHold, refersTo, isCall}
 use Rattle.calls.specs.Timers.{stateDue}
 use Rattle.script.specs.declared.Request.{Request}
-use Rattle.script.specs.declared.Request.the-variants.{Tick, Message, Connect, Clear, Offer}
+use Rattle.script.specs.declared.Request.the-variants.{Tick, Message, Connect, Clear, Offer, RestartAll, RestartOne, PutBack}
 use Rattle.explain.specs.Names.{nameIn, kindNames, causeNames, refusalNames}
 
 -- "its type by name (`message type N` for an unknown one)"
@@ -74,6 +74,9 @@ requestText (Message n) came = messageText (take n came)
 requestText (Connect slot) came = word "connect slot " ++ decimalText slot
 requestText (Clear slot cause) came = word "clear slot " ++ decimalText slot ++ clearText cause
 requestText (Offer n) came = word "offer"
+requestText RestartAll came = word "restart all pairs"
+requestText (RestartOne vpci vci) came = (word "restart VPCI " ++ decimalText vpci) ++ (word " VCI " ++ decimalText vci)
+requestText PutBack came = word "put all pairs back"
 
 -- "out MESSAGE", if something went out
 abbrev pub replyText : List ℕ → List ℕ
@@ -134,6 +137,9 @@ isAbout (Message n) came i slot = isFor (headOf (take n came)) slot
 isAbout (Connect number) came i slot = eqb number i
 isAbout (Clear number cause) came i slot = eqb number i
 isAbout (Offer n) came i slot = false
+isAbout RestartAll came i slot = false
+isAbout (RestartOne vpci vci) came i slot = false
+isAbout PutBack came i slot = false
 
 -- "slot N BEFORE to AFTER"
 abbrev pub changeText : ℕ → Slot → Slot → List ℕ

@@ -88,3 +88,4 @@ refusalNames =
     ++ row 10 "; refused: the body of the offer"
     ++ row 11 "; refused: no empty slot"
     ++ row 12 "; refused: no permitted pair free"
+    ++ row 13 "; refused: a RESTART of ours is under way, or the pair is not permitted"

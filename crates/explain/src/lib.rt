@@ -64,7 +64,7 @@ const CAUSE_NAMES: [u8; 865] = *b"\x01 unallocated (unassigned) number\n\
     \x65 message not compatible with call state\n\
     \x66 recovery on timer expiry\n";
 
-const REFUSAL_NAMES: [u8; 386] = *b"\x01; refused: reply room under 1,024 octets\n\
+const REFUSAL_NAMES: [u8; 459] = *b"\x01; refused: reply room under 1,024 octets\n\
     \x02; refused: clock label not 1\n\
     \x03; refused: reading too large\n\
     \x04; refused: reading below the last accepted\n\
@@ -74,7 +74,8 @@ const REFUSAL_NAMES: [u8; 386] = *b"\x01; refused: reply room under 1,024 octets
     \x08; refused: cause not in the host's list\n\
     \x0A; refused: the body of the offer\n\
     \x0B; refused: no empty slot\n\
-    \x0C; refused: no permitted pair free\n";
+    \x0C; refused: no permitted pair free\n\
+    \x0D; refused: a RESTART of ours is under way, or the pair is not permitted\n";
 
 // The name that a number has in a table; nothing if it has none.
 fn put_name(out: &mut [u8], at: usize, table: &[u8], number: u8) -> usize
@@ -206,6 +207,12 @@ fn put_request(out: &mut [u8], at: usize, request: Request, came: &[u8]) -> usiz
             put_wide_cause(out, next, cause)
         }
         Request::Offer(_) => octets::put(out, at, b"offer"),
+        Request::RestartAll => octets::put(out, at, b"restart all pairs"),
+        Request::RestartOne(vpci, vci) => {
+            let half = put_labelled(out, at, b"restart VPCI ", vpci);
+            put_labelled(out, half, b" VCI ", vci)
+        }
+        Request::PutBack => octets::put(out, at, b"put all pairs back"),
     }
 }
 
@@ -340,6 +347,9 @@ fn is_about(request: Request, came: &[u8], i: usize, slot: Slot) -> bool
         Request::Connect(number) => number == i as u64,
         Request::Clear(number, _) => number == i as u64,
         Request::Offer(_) => false,
+        Request::RestartAll => false,
+        Request::RestartOne(_, _) => false,
+        Request::PutBack => false,
     }
 }
 

@@ -5,6 +5,7 @@
 --   channelOctets, entryOctets    a permanent pair
 --   referenceOctets, stateOctets, callOctets     a live call
 --   holdField                     the field of a slot, none for an empty one
+--   namedOctets, requestOctets    our RESTART
 -- Assumes nothing.
 use Prim.Native.Nat.{ℕ, _+_, _/_, _%_}
 use mathlib.Core.Bool.{Bool, cond}
@@ -15,17 +16,21 @@ use Rattle.octets.specs.Octets.{high, low}
 use Rattle.channels.specs.declared.Channel.{Channel}
 use Rattle.channels.specs.declared.Channel.the-variants.{None, Pair}
 use Rattle.channels.specs.declared.Entry.{Entry}
+use Rattle.channels.specs.declared.Named.{Named}
+use Rattle.channels.specs.declared.Named.the-variants as named
 use Rattle.channels.specs.declared.Range.{Range}
 use Rattle.calls.specs.declared.State.{State}
 use Rattle.calls.specs.declared.State.the-variants.{N3, N6, N9, N10, N12}
 use Rattle.calls.specs.declared.Call.{Call}
 use Rattle.calls.specs.declared.Hold.{Hold}
 use Rattle.calls.specs.declared.Hold.the-variants.{Empty, Live}
+use Rattle.service.specs.declared.GlobalState.{GlobalState}
+use Rattle.service.specs.declared.GlobalState.the-variants.{Null, RestartRequest}
 
 abbrev pub two : ℕ → List ℕ
 two n = high n ∷ low n ∷ []
 
--- the number of a pair in doubt (document 02, R-2) in four octets: these are its VPCI and its VCI
+-- the number of a pair in doubt (document 02, R-2), or out of service (R-4), in four octets: these are its VPCI and its VCI
 abbrev pub four : ℕ → List ℕ
 four n = two (n / 65536) ++ two n
 
@@ -66,3 +71,12 @@ callOctets slot c q = slot ∷ (referenceOctets (c .network) (c .reference) ++ (
 abbrev pub holdField : ℕ → Hold → List ℕ
 holdField slot Empty = []
 holdField slot (Live c q) = field 4 (callOctets slot c q)
+
+-- our RESTART (document 02, R-4): if the first or the second T316 runs, its deadline, and for one pair VPCI and VCI
+abbrev pub namedOctets : Named → List ℕ
+namedOctets named.All = []
+namedOctets (named.Pair p v) = two p ++ two v
+
+abbrev pub requestOctets : GlobalState → List ℕ
+requestOctets Null = []
+requestOctets (RestartRequest n second d) = cond second 2 1 ∷ (eight d ++ namedOctets n)

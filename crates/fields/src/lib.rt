@@ -2,21 +2,24 @@
 //   put_eight                 a number in eight octets
 //   put_field                 a tag, the length of the contents, the contents
 //   put_range, put_channel    what one permitted range, and one permanent pair, add to their field
-//   put_four                  what one pair in doubt adds: its number in four octets are VPCI and VCI
+//   put_four                  what one pair in doubt, or out of service, adds: its number in four octets are VPCI and VCI
 //   put_hold                  the field of a slot
+//   put_request_field         the field of our RESTART
 // Each asks for room for the longest that it writes, and answers the place behind it. Assumes nothing.
 use calls::Call;
 use calls::Hold;
 use calls::State;
 use channels::Channel;
+use channels::Named;
 use channels::Range;
+use service::GlobalState;
 ghost use mathlib.Core.Path.{_≡_};
 ghost use mathlib.Core.Bool.{cond};
 ghost use mathlib.Core.List.{_∷_};
 ghost use Prim.Native.Nat.{_+_, _≤_};
 ghost use lib.ListN.{length};
 ghost use Rattle.octets.specs.Octets.{Wrote};
-ghost use Rattle.fields.specs.Fields.{two, four, eight, field, rangeOctets, channelOctets, referenceOctets, stateOctets, callOctets, holdField};
+ghost use Rattle.fields.specs.Fields.{two, four, eight, field, rangeOctets, channelOctets, referenceOctets, stateOctets, callOctets, holdField, namedOctets, requestOctets};
 
 // A number in two octets.
 fn put_two(room: &mut [u8], at: usize, n: u16) -> usize
@@ -120,7 +123,7 @@ fn side_bit(network: bool) -> u8
     if network { 0x80 } else { 0 }
 }
 
-// Which T308 runs: the first or the second.
+// Which T308, or T316, runs: the first or the second.
 fn run_number(second: bool) -> u8
     ensures { λ r. ⌜ r ≡ cond second 2 1 ⌝ }
 {
@@ -193,4 +196,45 @@ pub fn put_hold(room: &mut [u8], at: usize, slot: u8, hold: Hold) -> usize
             put_field(room, at, 4, &contents[..size])
         }
     }
+}
+
+// The pair that our RESTART names; nothing for all.
+fn put_named(room: &mut [u8], at: usize, named: Named) -> usize
+    requires { ⌜ at + 4 ≤ length (now room) ⌝ }
+    ensures { λ r. ⌜ Wrote (now (room .entry)) at (namedOctets named) (now (room .exit)) r ⌝ }
+    ensures short { λ r. ⌜ r ≤ at + 4 ⌝ }
+{
+    match named {
+        Named::All => at,
+        Named::Pair(vpci, vci) => {
+            let second = put_two(room, at, vpci);
+            put_two(room, second, vci)
+        }
+    }
+}
+
+// Our RESTART: which T316 runs, its deadline, and the pair; nothing where none is under way.
+fn put_request(room: &mut [u8], at: usize, state: GlobalState) -> usize
+    requires { ⌜ at + 13 ≤ length (now room) ⌝ }
+    ensures { λ r. ⌜ Wrote (now (room .entry)) at (requestOctets state) (now (room .exit)) r ⌝ }
+    ensures short { λ r. ⌜ r ≤ at + 13 ⌝ }
+{
+    match state {
+        GlobalState::Null => at,
+        GlobalState::RestartRequest(named, second, deadline) => {
+            let next = put_timed(room, at, run_number(second), deadline);
+            put_named(room, next, named)
+        }
+    }
+}
+
+// The field of our RESTART.
+pub fn put_request_field(room: &mut [u8], at: usize, state: GlobalState) -> usize
+    requires { ⌜ at + 16 ≤ length (now room) ⌝ }
+    ensures { λ r. ⌜ Wrote (now (room .entry)) at (field 7 (requestOctets state)) (now (room .exit)) r ⌝ }
+    ensures short { λ r. ⌜ r ≤ at + 16 ⌝ }
+{
+    let mut contents = [0u8; 13];
+    let size = put_request(&mut contents, 0, state);
+    put_field(room, at, 7, &contents[..size])
 }

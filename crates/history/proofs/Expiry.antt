@@ -10,13 +10,17 @@ use native.Mathlib.Omega.{arith}
 use lib.ListN.{length}
 use lib.Seq.{getD-set-same}
 use borrow.Author.Tests.{eq-eqb}
-use Rattle.channels.proofs.Cases.{clash}
+use Rattle.channels.proofs.Cases.{by-test, clash}
 use Rattle.pairs.specs.Pairs.{isFull}
 use Rattle.pairs.proofs.Laws.{with-in}
 use Rattle.calls.specs.declared.State.{State}
 use Rattle.calls.specs.declared.State.the-variants.{N3, N6, N9, N10, N12}
 use Rattle.calls.specs.declared.Call.{Call}
+use Rattle.calls.specs.declared.Due.the-variants.{At}
 use Rattle.calls.specs.Calls.{noSlot, liveSlot}
+use Rattle.slots.specs.Timers.{soonest, nextDue}
+use Rattle.service.specs.declared.GlobalState.{GlobalState}
+use Rattle.service.specs.declared.GlobalState.the-variants.{Null, RestartRequest}
 use Rattle.replies.specs.declared.Reply.the-variants as reply
 use Rattle.verdicts.specs.declared.Verdict.{Verdict}
 use Rattle.verdicts.specs.Verdict.{moved, lost}
@@ -24,15 +28,16 @@ use Rattle.verdicts.specs.Expiry.{expire, lastT308}
 use Rattle.effects.specs.declared.Effect.{Effect}
 use Rattle.effects.specs.Effect.{onCall}
 use Rattle.table.specs.declared.Table.{Table}
-use Rattle.table.specs.Effects.{noRoom, fireHold, fired}
+use Rattle.table.specs.Effects.{noRoom, fireHold, fired, requestFirst, tickEffect}
 use Rattle.outcome.specs.Outcome.{sending}
 use Rattle.control.specs.Happens.{Event, tick, happens}
 use Rattle.views.specs.Tables.{slotAt, InDoubt}
 use Rattle.views.specs.Effects.{moreOf}
 use Rattle.safety.specs.Sound.{Sound}
 use Rattle.safety.proofs.Tables.{live-within}
+use Rattle.safety.proofs.Restarts.{fires-next}
 use Rattle.history.specs.History.{again, Fires, Expiry}
-use Rattle.history.proofs.Accepted.{accepted-effect}
+use Rattle.safety.proofs.Accepted.{accepted-effect}
 
 -- T308 runs again, or the call is gone and its pair is in doubt
 abbrev pub lastVerdict : Bool → State → ℕ → Verdict
@@ -52,10 +57,21 @@ module _ (t : Table) (s : Sound t) (label reading room i : ℕ) (c : Call) (q : 
   abbrev judged : Verdict → Effect
   judged d = onCall i c (not (c .network)) (c .reference) d
 
+  -- T316 does not come first
+  slot-fires : tickEffect t reading ≡ fired t reading (nextDue reading (t .slots .all))
+  slot-fires = by-state (t .global .state) refl
+    where
+      by-state : (g : GlobalState) → t .global .state ≡ g → tickEffect t reading ≡ fired t reading (nextDue reading (t .slots .all))
+      by-state Null g = rw g
+      by-state (RestartRequest which second d) g =
+          by-test (requestFirst reading (soonest reading (t .slots .all)) (At d))
+          (λ y. absurd (f .no-T316 which second d g (fires-next t reading d y)))
+          (λ n. rw (g, n))
+
   as-fired : (full : Bool) → isFull (t .doubts) ≡ full → happens t ticks ≡ sending t reading (judged (lastVerdict full q reading)) (moreOf t ticks) []
   as-fired full e =
       accepted-effect t ticks (f .accepted) (judged (lastVerdict full q reading))
-      (ap (fired t reading) (f .due) ∙ ap (fireHold (noRoom t) reading i) (f .live)
+      (slot-fires ∙ ap (fired t reading) (f .due) ∙ ap (fireHold (noRoom t) reading i) (f .live)
       ∙ ap judged (last-expires (noRoom t) q reading (f .last) ∙ ap (λ (b : Bool). lastVerdict b q reading) e))
 
   below : i < length (t .slots .all)

@@ -1,7 +1,7 @@
 pub mod Standing
-pub mod Accepted
 pub mod Expiry
 pub mod Restarting
+pub mod Marks
 pub mod Doubts
 pub mod Steps
 pub mod History

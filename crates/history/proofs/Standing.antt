@@ -22,7 +22,7 @@ use Rattle.table.specs.declared.Table.{Table}
 use Rattle.views.specs.Tables.{slotAt, HasCall, OnPair, Holds}
 use Rattle.safety.specs.Sound.{Sound}
 use Rattle.safety.proofs.Tables.{pair-on, hold-on, held-some, some-held}
-use Rattle.history.specs.History.{Way, free, held, doubtful, heldBy, heldIn, standing, wayIn, SameCall}
+use Rattle.history.specs.History.{Way, free, held, doubtful, outOfService, heldBy, heldIn, outIn, standing, wayIn, unmarked, SameCall}
 
 -- a slot's call that has the pair holds it
 held-by : (p v i : ℕ) (c : Call) (q : State) → OnPair p v c → heldBy p v i (Live c q) ≡ held i (c .network) (c .reference)
@@ -39,7 +39,7 @@ module _ (t : Table) (p v : ℕ) where
   found-holds : (i : ℕ) → place (holdsPair p v) (t .slots .all) ≡ At i → (c : Call) × ((q : State) × (HasCall t i c q × OnPair p v c))
   found-holds i e = hold-on p v (slotAt t i .hold) ((placed (holdsPair p v) noSlot (t .slots .all) i e) .passes)
 
-  pub way-none : (Holds t p v → ⊥) → wayIn t p v ≡ cond (inPairs (t .doubts) p v) doubtful free
+  pub way-none : (Holds t p v → ⊥) → wayIn t p v ≡ cond (inPairs (t .doubts) p v) doubtful (unmarked t p v)
   way-none none =
       let no : someOf (holdsPair p v) (t .slots .all) ≡ false =
       by-test (someOf (holdsPair p v) (t .slots .all)) (λ y. absurd (none (some-held t p v y))) (λ n. n) in
@@ -61,7 +61,8 @@ module _ (t : Table) (p v : ℕ) where
   pub data Stands : Way → Type 0 where
     by-call : (i : ℕ) (c : Call) (q : State) → HasCall t i c q → OnPair p v c → Stands (held i (c .network) (c .reference))
     in-doubt : (Holds t p v → ⊥) → inPairs (t .doubts) p v ≡ true → Stands doubtful
-    by-none : (Holds t p v → ⊥) → inPairs (t .doubts) p v ≡ false → Stands free
+    marked : (Holds t p v → ⊥) → inPairs (t .doubts) p v ≡ false → outIn t p v ≡ true → Stands outOfService
+    by-none : (Holds t p v → ⊥) → inPairs (t .doubts) p v ≡ false → outIn t p v ≡ false → Stands free
 
   pub stands : Stands (wayIn t p v)
   stands = by-found (place (holdsPair p v) (t .slots .all)) refl
@@ -69,7 +70,9 @@ module _ (t : Table) (p v : ℕ) where
       by-found : (f : Found) → place (holdsPair p v) (t .slots .all) ≡ f → Stands (standing t p v f)
       by-found Nothing e =
           let none : Holds t p v → ⊥ = λ h. clash (held-some t p v h) ((unplaced (holdsPair p v) noSlot (t .slots .all) e) .some) in
-          by-test (inPairs (t .doubts) p v) (λ y. rw y (in-doubt none y)) (λ n. rw n (by-none none n))
+          by-test (inPairs (t .doubts) p v)
+          (λ y. rw y (in-doubt none y))
+          (λ n. by-test (outIn t p v) (λ o. rw (n, o) (marked none n o)) (λ o. rw (n, o) (by-none none n o)))
       by-found (At i) e =
           let h = found-holds i e in
           rw (h .1 .1 .0, held-by p v i (h .0) (h .1 .0) (h .1 .1 .1)) (by-call i (h .0) (h .1 .0) (h .1 .1 .0) (h .1 .1 .1))

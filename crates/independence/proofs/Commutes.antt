@@ -50,7 +50,7 @@ module _ (reading : ℕ) (p q : Slot → Bool) (a b : Ground → List Slot → D
       record {
         first = ap given (sym same-a);
         second = ap given (sym same-b);
-        both = λ i. record { slots = record { all = met i }; last = reading; doubts = t .doubts; pool = t .pool };
+        both = λ i. record { slots = record { all = met i }; last = reading; doubts = t .doubts; global = t .global; out = t .out; pool = t .pool };
       }
 
 other-sym : (h k : Header) → Other h k → Other k h

@@ -23,6 +23,8 @@ use Rattle.calls.specs.Calls.{noSlot, liveSlot, isEmpty, isCall}
 use Rattle.first.specs.declared.Found.{Found}
 use Rattle.first.specs.declared.Found.the-variants.{Nothing, At}
 use Rattle.first.specs.First.{place, first, upd}
+use Rattle.service.specs.declared.GlobalState.{GlobalState}
+use Rattle.service.specs.declared.OutOfService.{OutOfService}
 use Rattle.search.specs.Search.{taken}
 use Rattle.header.specs.declared.Header.{Header}
 use Rattle.replies.specs.declared.Reply.{Reply}
@@ -88,16 +90,18 @@ pub record Sight : Type 0 where
   pub empty : Found
   pub pair : Channel
 
--- what a message on a call leaves as it is: the pairs in doubt, and the pool
+-- what a message on a call leaves as it is: the pairs in doubt and out of service, our RESTART, and the pool
 pub record Ground : Type 0 where
   pub doubts : Pairs
+  pub out : OutOfService
+  pub request : GlobalState
   pub pool : Pool
 
 abbrev pub groundOf : Table → Ground
-groundOf t = record { doubts = t .doubts; pool = t .pool }
+groundOf t = record { doubts = t .doubts; out = t .out; request = t .global .state; pool = t .pool }
 
 abbrev pub freeOn : Ground → List Slot → Channel
-freeOn ground ss = lowest (taken ss (ground .doubts) (ground .pool .permanents)) (ground .pool .ranges)
+freeOn ground ss = lowest (taken ss (ground .doubts) (ground .out) (ground .request) (ground .pool .permanents)) (ground .pool .ranges)
 
 abbrev pub sight : (Slot → Bool) → Ground → List Slot → Sight
 sight own ground ss = record {

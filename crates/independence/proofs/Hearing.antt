@@ -40,7 +40,7 @@ use Rattle.verdicts.specs.declared.Fate.{Fate}
 use Rattle.verdicts.specs.declared.Fate.the-variants as fate
 use Rattle.verdicts.specs.declared.Verdict.{Verdict}
 use Rattle.effects.specs.declared.Effect.{Effect}
-use Rattle.effects.specs.Change.{noFlags, slotsAfter, doubtsAfter}
+use Rattle.effects.specs.Change.{noFlags, slotsAfter, doubtsAfter, globalAfter, outAfter}
 use Rattle.effects.specs.Effect.{replying, onCall}
 use Rattle.table.specs.declared.Table.{Table}
 use Rattle.table.specs.Effects as effects
@@ -77,6 +77,8 @@ pub record Matches (t : Table) (own : Slot → Bool) (e : Effect) (d : Deed) : T
   pub answer : givenBy (acceptedAs t 0 e) ≡ given d
   pub slots : slotsAfter (e .change) (t .slots) .all ≡ perform own d (t .slots .all)
   pub doubts : doubtsAfter (e .change) (t .doubts) ≡ t .doubts
+  pub global : globalAfter (e .change) (t .global) ≡ t .global
+  pub out : outAfter (e .change) (t .out) ≡ t .out
 
 module _ (t : Table) (own : Slot → Bool) where
   matches-cond : (b : Bool) (e e′ : Effect) (d d′ : Deed) → Matches t own e d → Matches t own e′ d′ → Matches t own (cond b e e′) (cond b d d′)
@@ -84,11 +86,11 @@ module _ (t : Table) (own : Slot → Bool) where
   matches-cond false e e′ d d′ x y = y
 
   still-matches : (flag : Bool) (r : ℕ) (a : Reply) → Matches t own (replying flag r a) (still flag r a)
-  still-matches flag r a = record { answer = refl; slots = sym (upd-stays own (t .slots .all)); doubts = refl }
+  still-matches flag r a = record { answer = refl; slots = sym (upd-stays own (t .slots .all)); doubts = refl; global = refl; out = refl }
 
   pair-matches : (r i : ℕ) (c : Channel) → place isEmpty (t .slots .all) ≡ At i → Matches t own (effects.onPair r i c) (onPair r i c)
   pair-matches r i None e = still-matches true r _
-  pair-matches r i (Pair p v) e = record { answer = refl; slots = sym ((placed isEmpty noSlot (t .slots .all) i e) .changed _); doubts = refl }
+  pair-matches r i (Pair p v) e = record { answer = refl; slots = sym ((placed isEmpty noSlot (t .slots .all) i e) .changed _); doubts = refl; global = refl; out = refl }
 
   admit-matches : (r : ℕ) (f : Found) → place isEmpty (t .slots .all) ≡ f → Matches t own (effects.admitted t r f) (admit r f (effects.freePair t))
   admit-matches r Nothing e = still-matches true r _
@@ -109,8 +111,8 @@ module _ (t : Table) (own : Slot → Bool) where
   call-matches h i c q a f e live stay = still-matches (not (h .flag)) (h .reference) a
   call-matches h i c q a f e live (to n notice) =
       let put = (placed own noSlot (t .slots .all) i e) .changed (fated f) ∙ ap (λ (k : Hold). set (t .slots .all) i (inState n k)) live in
-      record { answer = refl; slots = sym put; doubts = refl }
-  call-matches h i c q a f e live gone = record { answer = refl; slots = sym ((placed own noSlot (t .slots .all) i e) .changed (fated f)); doubts = refl }
+      record { answer = refl; slots = sym put; doubts = refl; global = refl; out = refl }
+  call-matches h i c q a f e live gone = record { answer = refl; slots = sym ((placed own noSlot (t .slots .all) i e) .changed (fated f)); doubts = refl; global = refl; out = refl }
 
   hold-matches : (m : List ℕ) (h : Header) (reading i : ℕ) (k : Hold) → place own (t .slots .all) ≡ At i → holdAt (t .slots .all) i ≡ k
       → Matches t own (effects.onHold m h reading i k) (onHold m h reading i k)
@@ -140,7 +142,17 @@ refusedWith n = record { refusal = n; reply = []; notice = 0; flags = noFlags }
 
 -- the answer of a deed, and the table after it
 abbrev pub afterDeed : ℕ → (Slot → Bool) → Table → Deed → Given × Table
-afterDeed reading own t d = (given d, record { slots = record { all = perform own d (t .slots .all) }; last = reading; doubts = t .doubts; pool = t .pool })
+afterDeed reading own t d = (
+  given d,
+  record {
+    slots = record { all = perform own d (t .slots .all) };
+    last = reading;
+    doubts = t .doubts;
+    global = t .global;
+    out = t .out;
+    pool = t .pool;
+  },
+)
 
 abbrev pub does : ℕ → List ℕ → Header → Table → Given × Table
 does reading m h t = afterDeed reading (mine h) t (decision m h reading (groundOf t) (t .slots .all))
@@ -151,7 +163,7 @@ read o = (givenBy o, o .answer .table)
 matched : (t : Table) (reading : ℕ) (own : Slot → Bool) (e : Effect) (d : Deed) → Matches t own e d → read (acceptedAs t reading e) ≡ afterDeed reading own t d
 matched t reading own e d x = λ i. (
   x .answer i,
-  record { slots = record { all = x .slots i }; last = reading; doubts = x .doubts i; pool = t .pool },
+  record { slots = record { all = x .slots i }; last = reading; doubts = x .doubts i; global = x .global i; out = x .out i; pool = t .pool },
 )
 
 pub accepted-does : (t : Table) (reading : ℕ) (m : List ℕ) (h : Header) → eqb (h .reference) 0 ≡ false

@@ -18,6 +18,7 @@ use Rattle.channels.specs.Channels.{among}
 use Rattle.channels.proofs.Cases.{by-test, clash}
 use Rattle.channels.proofs.Lowest.{lowest-same}
 use Rattle.pairs.specs.Pairs.{inPairs}
+use Rattle.service.specs.Service.{underRestart, isOut}
 use Rattle.calls.specs.declared.State.{State}
 use Rattle.calls.specs.declared.Hold.{Hold}
 use Rattle.calls.specs.declared.Hold.the-variants.{Empty, Live}
@@ -161,4 +162,4 @@ module _ (p v : ℕ) where
 pub calm-free : (own : Slot → Bool) (f : Fate) (ground : Ground) (ss : List Slot) → Calm f → freeOn ground (upd own (fated f) ss) ≡ freeOn ground ss
 calm-free own f ground ss calm =
     lowest-same _ _ (ground .pool .ranges)
-    (λ p v. ap (λ (b : Bool). b || (inPairs (ground .doubts) p v || among p v (ground .pool .permanents))) (calm-pairs p v own f ss calm))
+    (λ p v. ap (λ (b : Bool). b || (inPairs (ground .doubts) p v || (isOut (ground .out) p v || (underRestart (ground .request) p v || among p v (ground .pool .permanents))))) (calm-pairs p v own f ss calm))

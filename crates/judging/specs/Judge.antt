@@ -97,11 +97,12 @@ noCallReply m h =
     (reply.ReleaseCompleteWith (plainCause 81))))
 
 -- "Global: STATUS does nothing. RESTART with flag 0 goes on. RESTART ACKNOWLEDGE with flag 1: STATUS cause 101. All else:
--- STATUS cause 81. Global STATUS shows state 0." "A global 101 carries its type too."
-abbrev pub globalReply : Header → Reply
-globalReply h =
+-- STATUS cause 81. Global STATUS shows state 0." "A global 101 carries its type too." Document 02, R-4: "Global STATUS now shows Restart
+-- Request, 61, while waiting."
+abbrev pub globalReply : ℕ → Header → Reply
+globalReply state h =
     cond (eqb (h .kind) 0x7D)
     reply.None
     (cond (eqb (h .kind) 0x4E && h .flag)
-    (reply.Status 0 (because 101 (diagnostic.Octet 0x4E)))
-    (reply.Status 0 (plainCause 81)))
+    (reply.Status state (because 101 (diagnostic.Octet 0x4E)))
+    (reply.Status state (plainCause 81)))

@@ -184,19 +184,19 @@ pub fn no_call_reply(m: &[u8], head: Header) -> Reply
     }
 }
 
-// The reply to a message on the global reference, other than RESTART with flag 0.
-pub fn global_reply(head: Header) -> Reply
-    ensures { λ r. ⌜ r ≡ globalReply head ⌝ }
+// The reply to a message on the global reference, other than RESTART with flag 0; a STATUS shows this state.
+pub fn global_reply(state: u8, head: Header) -> Reply
+    ensures { λ r. ⌜ r ≡ globalReply state head ⌝ }
 {
     let kind = head.kind;
     match kind {
         0x7D => Reply::None,
         0x4E => {
             if head.flag {
-                return Reply::Status(0, because(101, Diagnostic::Octet(0x4E)));
+                return Reply::Status(state, because(101, Diagnostic::Octet(0x4E)));
             }
-            Reply::Status(0, plain_cause(81))
+            Reply::Status(state, plain_cause(81))
         }
-        _ => Reply::Status(0, plain_cause(81)),
+        _ => Reply::Status(state, plain_cause(81)),
     }
 }

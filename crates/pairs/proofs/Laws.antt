@@ -6,8 +6,7 @@
 --   none-in, none-tidy          no pair
 --   with-in, with-tidy          a pair that was not there is put in: it and what was there are there
 --   without-in, without-tidy    a pair is taken out: what was there but the pair is there
---   names, unless-in, unless-tidy
---                               the pairs that are named are taken out
+--   unless-in, unless-tidy      the pairs that are named are taken out
 -- Assumes nothing.
 use Prim.Native.Nat.{ℕ, suc, _+_, _-_, _*_, _/_, _%_, _≤_, _<_}
 use mathlib.Core.Path.{_≡_, refl, sym, ap, _∙_}
@@ -22,7 +21,7 @@ use Rattle.channels.specs.Some.{someOf}
 use Rattle.channels.specs.declared.Named.{Named}
 use Rattle.channels.specs.declared.Named.the-variants.{All, Pair}
 use Rattle.channels.proofs.Cases.{by-test, clash, both}
-use Rattle.pairs.specs.Pairs.{room, pairNumber, isNumber, listed, packed, noPairs, isFull, inPairs, inserted, withPair, removed, withoutPair, unlessNamed, leads, ascending, Tidy}
+use Rattle.pairs.specs.Pairs.{room, pairNumber, isNumber, listed, packed, noPairs, isFull, inPairs, inserted, withPair, removed, withoutPair, names, unlessNamed, leads, ascending, Tidy}
 use Rattle.pairs.specs.declared.Pairs.{Pairs}
 
 pub listed-packed : (ns : List ℕ) → listed (packed ns) ≡ ns
@@ -171,10 +170,6 @@ without-tidy ps p v t =
     tidy-packed (removed p v (listed ps)) (omega (arith, removed-length p v (listed ps), tidy-listed ps t, t .most)) (removed-ascending p v (listed ps) (t .order))
 
 -- the pairs that are named
-abbrev pub names : Named → ℕ → ℕ → Bool
-names All q w = true
-names (Pair p v) q w = eqb p q && eqb v w
-
 pub unless-in : (ps : Pairs) (n : Named) (q w : ℕ) → inPairs (unlessNamed ps n) q w ≡ (not (names n q w) && inPairs ps q w)
 unless-in ps All q w = none-in q w
 unless-in ps (Pair p v) q w = without-in ps p v q w

@@ -6,7 +6,7 @@
 --   size, isFull, inPairs       how many there are; if there is no room for one more; if a pair is one of them
 --   inserted, withPair          a number put in at its place; one pair more
 --   removed, withoutPair        a pair taken out; one pair less
---   unlessNamed                 without the pairs that a RESTART names
+--   names, unlessNamed          if a RESTART names a pair; without the pairs that it names
 --   leads, ascending, Tidy      the numbers ascend; pairs as our functions make them
 -- `inserted`, `removed`, `leads` and `ascending` are over lists of any length. Assumes nothing.
 use Prim.Native.Nat.{ℕ, _+_, _-_, _*_, _/_, _%_, _≤_}
@@ -64,6 +64,11 @@ removed p v (x ∷ xs) = cond (isNumber p v x) (removed p v xs) (x ∷ removed p
 
 abbrev pub withoutPair : Pairs → ℕ → ℕ → Pairs
 withoutPair ps p v = packed (removed p v (listed ps))
+
+-- "names it, or all"
+abbrev pub names : Named → ℕ → ℕ → Bool
+names All q w = true
+names (Pair p v) q w = eqb p q && eqb v w
 
 -- "A user's RESTART that names it, or all, ends the doubt."
 abbrev pub unlessNamed : Pairs → Named → Pairs

@@ -5,7 +5,7 @@
 --   reply-says, setup-says      in a reply, and in SETUP
 --   body-says                   in SETUP, of all but the Connection identifier: the same as in the offer's body
 --   release-cause, release-complete-cause, status-cause, status-state        the values in each reply that holds some
---   proceeding-pair, restart-pair, restart-class, restart-all-class
+--   proceeding-pair, restart-pair, restart-class, restart-all-class, own-restart-pair, own-restart-class, own-restart-all-class
 --   setup-pair                  the pair in SETUP
 -- Assumes nothing.
 use Prim.Native.Nat.{ℕ, _+_, _%_, _<_}
@@ -148,6 +148,16 @@ module _ (flag : Bool) (r : ℕ) (small : r < 8388608) where
 
   pub restart-all-class : restartIn (replyOctets flag r reply.RestartAcknowledgeAll) 9 ≡ Class 0x82
   restart-all-class = sent-restart reply.RestartAcknowledgeAll tt
+
+  -- document 02, R-4: our own RESTART
+  pub own-restart-pair : (p v : ℕ) → FitsPair p v → connectionIn (replyOctets flag r (reply.Restart p v)) 9 ≡ Pair p v
+  own-restart-pair p v h = sent-pair (reply.Restart p v) h ∙ pair-said p v [] h
+
+  pub own-restart-class : (p v : ℕ) → FitsPair p v → restartIn (replyOctets flag r (reply.Restart p v)) 9 ≡ Class 0x80
+  own-restart-class p v h = sent-restart (reply.Restart p v) h
+
+  pub own-restart-all-class : restartIn (replyOctets flag r reply.RestartAll) 9 ≡ Class 0x82
+  own-restart-all-class = sent-restart reply.RestartAll tt
 
   pub setup-pair : (p v : ℕ) (offered : List ℕ) → OfferBody offered → FitsPair p v → connectionIn (setupOctets r p v offered) 9 ≡ Pair p v
   setup-pair p v offered b h =

@@ -58,6 +58,8 @@ elements-short (reply.ReleaseCompleteWith c) = omega (arith, cause-short c)
 elements-short (reply.Status s c) = omega (arith, body-size (callState s) (cause c ∷ []), cause-short c)
 elements-short reply.RestartAcknowledgeAll = omega arith
 elements-short (reply.RestartAcknowledge p v) = omega arith
+elements-short reply.RestartAll = omega arith
+elements-short (reply.Restart p v) = omega arith
 
 octets-size : (m : Message) → length (octets m) ≡ 9 + length (body (m .elements))
 octets-size m = omega arith
@@ -130,6 +132,8 @@ elements-of-fit (reply.ReleaseCompleteWith c) h = more (cause-fits c h) none
 elements-of-fit (reply.Status s c) h = more (state-fits s (h .state)) (more (cause-fits c (h .why)) none)
 elements-of-fit reply.RestartAcknowledgeAll h = more (restart-fits 0x82 (omega arith)) none
 elements-of-fit (reply.RestartAcknowledge p v) h = more (restart-fits 0x80 (omega arith)) (more (connection-fits p v) none)
+elements-of-fit reply.RestartAll h = more (restart-fits 0x82 (omega arith)) none
+elements-of-fit (reply.Restart p v) h = more (restart-fits 0x80 (omega arith)) (more (connection-fits p v) none)
 
 kind-fits : (a : Reply) → kindOf a < 256
 kind-fits reply.None = omega arith
@@ -142,6 +146,8 @@ kind-fits (reply.ReleaseCompleteWith c) = omega arith
 kind-fits (reply.Status s c) = omega arith
 kind-fits reply.RestartAcknowledgeAll = omega arith
 kind-fits (reply.RestartAcknowledge p v) = omega arith
+kind-fits reply.RestartAll = omega arith
+kind-fits (reply.Restart p v) = omega arith
 
 module _ (flag : Bool) (r : ℕ) (a : Reply) (small : r < 8388608) (fit : Fitting a) where
   pub reply-well-formed : WellFormed (meant flag r a)

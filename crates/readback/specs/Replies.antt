@@ -48,6 +48,8 @@ Fitting (reply.ReleaseCompleteWith c) = FitsCause c
 Fitting (reply.Status s c) = FitsStatus s c
 Fitting reply.RestartAcknowledgeAll = Unit {0}
 Fitting (reply.RestartAcknowledge p v) = FitsPair p v
+Fitting reply.RestartAll = Unit {0}
+Fitting (reply.Restart p v) = FitsPair p v
 
 -- "a body of elements of at most 512 octets", "a whole number of elements, none overrunning"
 pub record OfferBody (offered : List ℕ) : Type 0 where

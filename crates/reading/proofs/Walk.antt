@@ -18,10 +18,12 @@ use borrow.Author.Tests.{eqb-true, eqb-false}
 use Rattle.channels.proofs.Cases.{by-test}
 use Rattle.channels.specs.declared.Pool.{Pool}
 use Rattle.pairs.specs.declared.Pairs.{Pairs}
+use Rattle.service.specs.declared.GlobalState.{GlobalState}
+use Rattle.service.specs.declared.OutOfService.{OutOfService}
 use Rattle.provisioning.specs.Provisioning.{provision}
 use Rattle.calls.specs.declared.Slot.{Slot}
 use Rattle.slots.specs.declared.Slots.{Slots}
-use Rattle.reading.specs.Reading.{twoAt, fourAt, eightAt, rest, numbersIn, least, listIn, foursIn, doubtsIn, slotIn, behindSlot, slotsIn, tableWith}
+use Rattle.reading.specs.Reading.{twoAt, fourAt, eightAt, rest, numbersIn, least, listIn, foursIn, doubtsIn, outIn, requestIn, slotIn, behindSlot, slotsIn, tableWith}
 
 -- the first k numbers of the contents are read
 pub record Listed (f numbers : List ℕ) (k : ℕ) : Type 0 where
@@ -102,9 +104,9 @@ fours-more f (suc k) =
     let e : suc k * 4 ≡ 4 + k * 4 = omega arith in
     ap (λ (l : List ℕ). fourAt f 0 ∷ l) (fours-more (drop 4 f) k ∙ rw (four-behind 4 f (k * 4), e))
 
-pub four-next : (f ns : List ℕ) (k v : ℕ) → k < length ns → v ≡ fourAt f (3 + k * 4) → take k ns ≡ foursIn (drop 3 f) k
-    → take (k + 1) (set ns k v) ≡ foursIn (drop 3 f) (k + 1)
-four-next f ns k v h e left = rw (add-one k, fours-more (drop 3 f) k, four-behind 3 f (k * 4), ← e, ← left) (take-suc-set ns k v h)
+pub four-next : (from : ℕ) (f ns : List ℕ) (k v : ℕ) → k < length ns → v ≡ fourAt f (from + k * 4) → take k ns ≡ foursIn (drop from f) k
+    → take (k + 1) (set ns k v) ≡ foursIn (drop from f) (k + 1)
+four-next from f ns k v h e left = rw (add-one k, fours-more (drop from f) k, four-behind from f (k * 4), ← e, ← left) (take-suc-set ns k v h)
 
 pub counted : (n : ℕ) (a : List ℕ) → n ≤ length a → n ≡ length (take n a)
 counted n a h = simp length-take (omega arith)
@@ -114,7 +116,9 @@ pub provision-same : (rs ps rs₁ ps₁ : List ℕ) → rs ≡ rs₁ → ps ≡ 
 provision-same rs ps rs₁ ps₁ a b = ap (λ (r : List ℕ). provision r ps) a ∙ ap (provision rs₁) b
 
 -- the table, by its parts
-pub table-parts : (f f₂ f₃ f₄ : List ℕ) (ss : Slots) (n : ℕ) (ds : Pairs) (pool : Pool) (count : ℕ) → rest (rest f) ≡ f₂ → rest f₂ ≡ f₃ → rest f₃ ≡ f₄
-    → ss .all ≡ slotsIn 0 f₄ count → n ≡ eightAt f₂ 3 → ds ≡ doubtsIn f₃
-    → record { slots = ss; last = n; doubts = ds; pool = pool } ≡ tableWith pool count f
-table-parts f f₂ f₃ f₄ ss n ds pool count a b c d e g = rw (a, b, c, ← d, ← e, ← g)
+pub table-parts : (f f₂ f₃ f₄ f₅ f₆ : List ℕ) (ss : Slots) (n : ℕ) (ds : Pairs) (q : GlobalState) (out : OutOfService) (pool : Pool) (count : ℕ)
+    → rest (rest f) ≡ f₂ → rest f₂ ≡ f₃ → rest f₃ ≡ f₄ → rest f₄ ≡ f₅ → rest f₅ ≡ f₆
+    → ss .all ≡ slotsIn 0 f₆ count → n ≡ eightAt f₂ 3 → ds ≡ doubtsIn f₃ → out ≡ outIn f₄ → q ≡ requestIn f₅
+    → record { slots = ss; last = n; doubts = ds; global = record { state = q }; out = out; pool = pool } ≡ tableWith pool count f
+table-parts f f₂ f₃ f₄ f₅ f₆ ss n ds q out pool count a b c d e slots last doubts marks request =
+    rw (a, b, c, d, e, ← slots, ← last, ← doubts, ← marks, ← request)

@@ -4,7 +4,9 @@
 --   rest                      the octets behind the first field
 --   numbersIn, least, listIn  numbers of two octets; those of the first field, at most so many
 --   rangeNumbers, pairNumbers the two lists, as start takes them
---   foursIn, doubtsIn         numbers of four octets; the pairs in doubt of the first field
+--   foursIn, pairsIn          numbers of four octets; pairs of the first field
+--   doubtsIn, outIn           the first field's pairs in doubt, and out of service
+--   namedIn, requestIn        our RESTART of the first field
 --   clearingIn, stateIn, referenceIn, callIn     the live call of the first field
 --   begins, slotIn, behindSlot    a slot holds a call if the first field is its own
 --   slotsIn                   the slots
@@ -16,9 +18,14 @@ use mathlib.Core.List.{List, [], _∷_}
 use lib.Dec.{eqb, leb, ltb}
 use lib.ListN.{length, getD, drop}
 use Rattle.octets.specs.Octets.{number}
+use Rattle.channels.specs.declared.Named.{Named}
+use Rattle.channels.specs.declared.Named.the-variants.{All, Pair}
 use Rattle.channels.specs.declared.Pool.{Pool}
 use Rattle.pairs.specs.declared.Pairs.{Pairs}
 use Rattle.pairs.specs.Pairs.{room, packed}
+use Rattle.service.specs.declared.GlobalState.{GlobalState}
+use Rattle.service.specs.declared.GlobalState.the-variants.{Null, RestartRequest}
+use Rattle.service.specs.declared.OutOfService.{OutOfService}
 use Rattle.calls.specs.declared.Clearing.{Clearing}
 use Rattle.calls.specs.declared.State.{State}
 use Rattle.calls.specs.declared.State.the-variants.{N3, N6, N9, N10, N12}
@@ -60,13 +67,28 @@ rangeNumbers f = listIn 12 f
 abbrev pub pairNumbers : List ℕ → List ℕ
 pairNumbers f = listIn 16 (rest f)
 
--- "At most 64 pairs are in doubt": each is one number of four octets
+-- "At most 64 pairs are in doubt"; "single pairs number at most 64": each is one number of four octets
 abbrev pub foursIn : List ℕ → ℕ → List ℕ
 foursIn f zero = []
 foursIn f (suc n) = fourAt f 0 ∷ foursIn (drop 4 f) n
 
+-- from an octet of the field on
+abbrev pub pairsIn : ℕ → List ℕ → Pairs
+pairsIn from f = packed (foursIn (drop from f) (least room (twoAt f 1 / 4)))
+
 abbrev pub doubtsIn : List ℕ → Pairs
-doubtsIn f = packed (foursIn (drop 3 f) (least room (twoAt f 1 / 4)))
+doubtsIn f = pairsIn 3 f
+
+-- behind tag and length: 3 the mark "all", then the single pairs
+abbrev pub outIn : List ℕ → OutOfService
+outIn f = record { all = eqb (getD f 3 0) 1; pairs = pairsIn 4 f }
+
+-- behind tag and length: 3 first or second T316, 4 the deadline, and for one pair 12 VPCI, 14 VCI
+abbrev pub namedIn : List ℕ → Named
+namedIn f = cond (eqb (twoAt f 1) 13) (Pair (twoAt f 12) (twoAt f 14)) All
+
+abbrev pub requestIn : List ℕ → GlobalState
+requestIn f = cond (eqb (twoAt f 1) 0) Null (RestartRequest (namedIn f) (eqb (getD f 3 0) 2) (eightAt f 4))
 
 -- behind tag and length: 3 the slot, 4 to 6 the flagged reference, 7 VPCI, 9 VCI, 11 the state, 12 the deadline, 20 first or second
 -- T308, 21 the cause. Cause 102 has the diagnostic "310", every other cause none
@@ -103,12 +125,14 @@ unfoldable pub slotsIn : ℕ → List ℕ → ℕ → List Slot
 slotsIn slot f zero = []
 slotsIn slot f (suc n) = slotIn slot f ∷ slotsIn (slot + 1) (behindSlot slot f) n
 
--- the calls, the last reading, the pairs in doubt, beside a pool; over the number of slots
+-- the calls, the last reading, the pairs in doubt, our RESTART, the pairs out of service, beside a pool; over the number of slots
 abbrev pub tableWith : Pool → ℕ → List ℕ → Table
 tableWith pool count f = record {
-  slots = slotsOf (slotsIn 0 (rest (rest (rest (rest f)))) count);
+  slots = slotsOf (slotsIn 0 (rest (rest (rest (rest (rest (rest f)))))) count);
   last = eightAt (rest (rest f)) 3;
   doubts = doubtsIn (rest (rest (rest f)));
+  global = record { state = requestIn (rest (rest (rest (rest (rest f))))) };
+  out = outIn (rest (rest (rest (rest f))));
   pool = pool;
 }
 

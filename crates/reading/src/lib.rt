@@ -7,10 +7,14 @@ use calls::Call;
 use calls::Clearing;
 use calls::Slot;
 use calls::State;
+use channels::Named;
 use channels::Pool;
 use pairs::Pairs;
 use pairs::ROOM;
 use provisioning::Provision;
+use service::Global;
+use service::GlobalState;
+use service::OutOfService;
 use slots::SLOTS;
 use slots::Slots;
 use table::Table;
@@ -19,7 +23,7 @@ ghost use Prim.Native.Nat.{_+_, _≤_};
 ghost use lib.ListN.{length, getD, take, drop};
 ghost use Rattle.slots.specs.Slots.{slotCount};
 ghost use Rattle.provisioning.specs.Provisioning.{provision};
-ghost use Rattle.reading.specs.Reading.{twoAt, fourAt, eightAt, rest, least, listIn, rangeNumbers, pairNumbers, doubtsIn, clearingIn, stateIn, referenceIn, callIn, begins, slotIn, behindSlot, slotsIn, tableWith};
+ghost use Rattle.reading.specs.Reading.{twoAt, fourAt, eightAt, rest, least, listIn, rangeNumbers, pairNumbers, pairsIn, outIn, namedIn, requestIn, clearingIn, stateIn, referenceIn, callIn, begins, slotIn, behindSlot, slotsIn, tableWith};
 
 // A list of start, in the front of an array.
 struct List {
@@ -120,23 +124,61 @@ pub fn provision_of(form: &[u8]) -> Provision
     provisioning::pool_of(&first[..r], &second[..p])
 }
 
-// The pairs in doubt, their field at a place: behind them stand zeros.
-fn doubts_in(form: &[u8], at: usize) -> Pairs
-    requires { ⌜ at ≤ 4294967296 ⌝ }
-    ensures { λ r. ⌜ r ≡ doubtsIn (drop at (now (form .entry))) ⌝ }
+// The pairs of the field at a place, from octet `from` of it on: behind them stand zeros.
+fn pairs_in(form: &[u8], at: usize, from: usize) -> Pairs
+    requires { ⌜ (at ≤ 4294967296) × (from ≤ 4) ⌝ }
+    ensures { λ r. ⌜ r ≡ pairsIn from (drop at (now (form .entry))) ⌝ }
 {
     let size = two_in(form, at, 1) as usize;
     let n = least(ROOM, size / 4);
     let mut numbers = [0; ROOM];
     let mut k: usize = 0;
     while k < n {
-        numbers[k] = four_in(form, at, 3 + k * 4);
+        numbers[k] = four_in(form, at, from + k * 4);
         k += 1;
     }
     Pairs {
         count: n,
         numbers: numbers,
     }
+}
+
+// The pairs out of service, their field at a place.
+fn out_in(form: &[u8], at: usize) -> OutOfService
+    requires { ⌜ at ≤ 4294967296 ⌝ }
+    ensures { λ r. ⌜ r ≡ outIn (drop at (now (form .entry))) ⌝ }
+{
+    let pairs = pairs_in(form, at, 4);
+    OutOfService {
+        all: octet_in(form, at, 3) == 1,
+        pairs: pairs,
+    }
+}
+
+// The pairs that our RESTART names: one pair, if its field has the octets of one.
+fn named_in(form: &[u8], at: usize) -> Named
+    requires { ⌜ at ≤ 4294967296 ⌝ }
+    ensures { λ r. ⌜ r ≡ namedIn (drop at (now (form .entry))) ⌝ }
+{
+    if two_in(form, at, 1) == 13 {
+        return Named::Pair(two_in(form, at, 12), two_in(form, at, 14));
+    }
+    Named::All
+}
+
+// Our RESTART, its field at a place.
+fn request_in(form: &[u8], at: usize) -> GlobalState
+    requires { ⌜ at ≤ 4294967296 ⌝ }
+    ensures { λ r. ⌜ r ≡ requestIn (drop at (now (form .entry))) ⌝ }
+{
+    if two_in(form, at, 1) == 0 {
+        return GlobalState::Null;
+    }
+    GlobalState::RestartRequest(
+        named_in(form, at),
+        octet_in(form, at, 3) == 2,
+        eight_in(form, at, 4),
+    )
 }
 
 // Which T308 runs, and why the call is cleared.
@@ -220,7 +262,7 @@ fn step_in(form: &[u8], at: usize, slot: usize) -> Step
 
 // The slots, their fields from a place on.
 fn slots_in(form: &[u8], at: usize) -> Slots
-    requires { ⌜ at ≤ 262152 ⌝ }
+    requires { ⌜ at ≤ 393228 ⌝ }
     ensures { λ r. ⌜ r .all ≡ slotsIn 0 (drop at (now (form .entry))) slotCount ⌝ }
 {
     let empty = Slot::empty();
@@ -244,13 +286,20 @@ pub fn table_of(form: &[u8], pool: Pool) -> Table
     let pairs = behind(form, 0);
     let reading = behind(form, pairs);
     let doubtful = behind(form, reading);
-    let fields = behind(form, doubtful);
+    let marked = behind(form, doubtful);
+    let request = behind(form, marked);
+    let fields = behind(form, request);
     let all = slots_in(form, fields);
-    let doubts = doubts_in(form, doubtful);
+    let doubts = pairs_in(form, doubtful, 3);
+    let out = out_in(form, marked);
+    let state = request_in(form, request);
+    let global = Global { state: state };
     Table {
         slots: all,
         last: eight_in(form, reading, 3),
         doubts: doubts,
+        global: global,
+        out: out,
         pool: pool,
     }
 }

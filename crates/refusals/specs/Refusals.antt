@@ -6,15 +6,18 @@
 --   notN3, unconnectable, connectRefusal    6 and 7 of connect
 --   inN12, unclearable, hostCauses, causeRefusal, clearRefusal      6 to 8 of clear
 --   bodyRefusal, slotRefusal, pairRefusal, offerRefusal             10 to 12
+--   mayRestart, targetRefusal, restartRefusal                       13
 -- 0 says that nothing is refused. Assumes nothing.
 use Prim.Native.Nat.{ℕ}
-use mathlib.Core.Bool.{cond}
+use mathlib.Core.Bool.{Bool, true, false, cond}
 use mathlib.Core.List.{List, [], _∷_}
 use lib.Dec.{eqb, ltb}
 use lib.ListN.{length}
 use Rattle.traffic.specs.Traffic.{member}
 use Rattle.channels.specs.declared.Channel.{Channel}
 use Rattle.channels.specs.declared.Channel.the-variants.{None, Pair}
+use Rattle.channels.specs.declared.Pool.{Pool}
+use Rattle.channels.specs.Channels.{permitted}
 use Rattle.calls.specs.declared.State.{State}
 use Rattle.calls.specs.declared.State.the-variants.{N3, N6, N9, N10, N12}
 use Rattle.calls.specs.declared.Hold.{Hold}
@@ -26,6 +29,10 @@ use Rattle.first.specs.declared.Found.the-variants.{Nothing, At}
 use Rattle.first.specs.First.{place}
 use Rattle.replies.specs.Reply.{replyRoom, bodyRoom}
 use Rattle.setup.specs.Offer.{offerFits}
+use Rattle.service.specs.declared.GlobalState.{GlobalState}
+use Rattle.service.specs.Service.{isWaiting}
+use Rattle.restarts.specs.declared.Target.{Target}
+use Rattle.restarts.specs.declared.Target.the-variants as target
 use Rattle.table.specs.declared.Table.{Table}
 use Rattle.table.specs.Effects.{freePair}
 
@@ -103,3 +110,14 @@ abbrev pub offerRefusal : Table → ℕ → ℕ → ℕ → List ℕ → ℕ
 offerRefusal t label reading room body =
     orElse (commonRefusal (t .last) label reading room)
     (orElse (bodyRefusal body) (orElse (slotRefusal (place isEmpty (t .slots .all))) (pairRefusal (freePair t))))
+
+-- document 02, R-4: "refusal 13, after 12, is for a second command or a pair not permitted"; a number of more than 16 bits is no VPCI and no VCI
+abbrev pub mayRestart : Pool → Target → Bool
+mayRestart pool target.All = true
+mayRestart pool (target.One p v) = cond (ltb 65535 p) false (cond (ltb 65535 v) false (permitted pool p v))
+
+abbrev pub targetRefusal : GlobalState → Pool → Target → ℕ
+targetRefusal g pool target = cond (isWaiting g) 13 (cond (mayRestart pool target) 0 13)
+
+abbrev pub restartRefusal : ℕ → ℕ → ℕ → ℕ → GlobalState → Pool → Target → ℕ
+restartRefusal last label reading room g pool target = orElse (commonRefusal last label reading room) (targetRefusal g pool target)

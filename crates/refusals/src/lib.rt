@@ -4,19 +4,25 @@
 //   connect_refusal, clear_refusal      1 to 4, and 6 to 8
 //   is_host_cause                       whether the host may use a cause
 //   body_refusal                        10; offer itself finds 11 and 12, where it looks for a slot and a pair
+//   restart_refusal                     1 to 4, and 13
 // Nothing has a `requires`. What a 0 says of the numbers is a second promise (`passed`), for those who go on. Assumes nothing.
 use calls::Hold;
 use calls::LARGEST_READING;
 use calls::State;
+use channels::Pool;
 use replies::BODY_ROOM;
 use replies::REPLY_ROOM;
+use restarts::Target;
+use service::GlobalState;
 ghost use mathlib.Core.Path.{_≡_};
+ghost use mathlib.Core.Bool.{true};
 ghost use Prim.Native.Nat.{_≤_, _<_};
 ghost use lib.ListN.{length};
 ghost use Rattle.calls.specs.Timers.{largestReading};
 ghost use Rattle.replies.specs.Reply.{replyRoom, bodyRoom};
 ghost use Rattle.traffic.specs.Traffic.{member};
-ghost use Rattle.refusals.specs.Refusals.{commonRefusal, sizeRefusal, messageRefusal, IsCall, notN3, unconnectable, connectRefusal, inN12, unclearable, hostCauses, causeRefusal, clearRefusal, bodyRefusal};
+ghost use Rattle.restarts.specs.Own.{Fits};
+ghost use Rattle.refusals.specs.Refusals.{commonRefusal, sizeRefusal, messageRefusal, IsCall, notN3, unconnectable, connectRefusal, inN12, unclearable, hostCauses, causeRefusal, clearRefusal, bodyRefusal, mayRestart, targetRefusal, restartRefusal};
 
 // The cause numbers that the host may use.
 const HOST_CAUSES: [u64; 17] = [
@@ -195,4 +201,57 @@ pub fn body_refusal(body: &[u8]) -> u8
         return 0;
     }
     10
+}
+
+// If a target is permitted: a number of more than 16 bits is not.
+fn may_restart(pool: Pool, target: Target) -> bool
+    ensures { λ r. ⌜ r ≡ mayRestart pool target ⌝ }
+    ensures passed { λ r. ⌜ (r ≡ true → Fits target) ⌝ }
+{
+    match target {
+        Target::All => true,
+        Target::One(vpci, vci) => {
+            if 65535 < vpci {
+                return false;
+            }
+            if 65535 < vci {
+                return false;
+            }
+            pool.permits(vpci as u16, vci as u16)
+        }
+    }
+}
+
+// Refusal 13.
+fn target_refusal(state: GlobalState, pool: Pool, target: Target) -> u8
+    ensures { λ r. ⌜ r ≡ targetRefusal state pool target ⌝ }
+    ensures passed { λ r. ⌜ (r ≡ 0 → Fits target) ⌝ }
+{
+    if state.is_waiting() {
+        return 13;
+    }
+    if may_restart(pool, target) {
+        return 0;
+    }
+    13
+}
+
+// Refusals 1 to 4 and 13, of restart.
+pub fn restart_refusal(
+    last: u64,
+    label: u64,
+    reading: u64,
+    room: usize,
+    state: GlobalState,
+    pool: Pool,
+    target: Target,
+) -> u8
+    ensures { λ r. ⌜ r ≡ restartRefusal last label reading room state pool target ⌝ }
+    ensures passed { λ r. ⌜ (r ≡ 0 → (replyRoom ≤ room) × (reading ≤ largestReading) × Fits target) ⌝ }
+{
+    let n = common_refusal(last, label, reading, room);
+    if n != 0 {
+        return n;
+    }
+    target_refusal(state, pool, target)
 }

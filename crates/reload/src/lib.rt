@@ -6,6 +6,10 @@ use calls::LARGEST_READING;
 use channels::Pool;
 use outcome::Started;
 use pairs::Pairs;
+use saved::LONGEST;
+use service::Global;
+use service::GlobalState;
+use service::OutOfService;
 use slots::Slots;
 use table::Table;
 ghost use mathlib.Core.Path.{_≡_};
@@ -17,7 +21,7 @@ ghost use Rattle.reload.specs.Reload.{noTable, reloadOf};
 fn is_own(table: Table, form: &[u8]) -> bool
     ensures { λ r. ⌜ r ≡ equal (formOf table) (now (form .entry)) ⌝ }
 {
-    let mut own = [0u8; 1036];
+    let mut own = [0u8; LONGEST];
     let n = saved::put_form(&mut own, 0, table);
     octets::same(&own[..n], form)
 }
@@ -28,11 +32,16 @@ fn refuse() -> Started
 {
     let slots = Slots::fresh();
     let doubts = Pairs::none();
+    let state = GlobalState::Null;
+    let global = Global { state: state };
+    let out = OutOfService::none();
     let pool = Pool::empty();
     let table = Table {
         slots: slots,
         last: 0,
         doubts: doubts,
+        global: global,
+        out: out,
         pool: pool,
     };
     Started {
@@ -54,10 +63,7 @@ pub fn reload(form: &[u8]) -> Started
     if LARGEST_READING < table.last {
         return refuse();
     }
-    if !rules::are_doubts_kept(table) {
-        return refuse();
-    }
-    if !rules::are_slots_kept(table) {
+    if !rules::is_kept(table) {
         return refuse();
     }
     if !is_own(table, form) {

@@ -76,8 +76,11 @@ kindOf (reply.ReleaseCompleteWith c) = 0x5A
 kindOf (reply.Status s c) = 0x7D
 kindOf reply.RestartAcknowledgeAll = 0x4E
 kindOf (reply.RestartAcknowledge p v) = 0x4E
+kindOf reply.RestartAll = 0x46
+kindOf (reply.Restart p v) = 0x46
 
--- "STATUS holds Call state then Cause"; "RESTART ACKNOWLEDGE repeats 79 and, for 80, 5A, octet 2 written 80"
+-- "STATUS holds Call state then Cause"; "RESTART ACKNOWLEDGE repeats 79 and, for 80, 5A, octet 2 written 80"; document 02, R-4: "We send
+-- RESTART with .. 79 and for one pair 5A"
 abbrev pub elementsOf : Reply → List Element
 elementsOf reply.None = []
 elementsOf (reply.CallProceeding p v) = connection p v ∷ []
@@ -89,6 +92,8 @@ elementsOf (reply.ReleaseCompleteWith c) = cause c ∷ []
 elementsOf (reply.Status s c) = callState s ∷ cause c ∷ []
 elementsOf reply.RestartAcknowledgeAll = restart 0x82 ∷ []
 elementsOf (reply.RestartAcknowledge p v) = restart 0x80 ∷ connection p v ∷ []
+elementsOf reply.RestartAll = restart 0x82 ∷ []
+elementsOf (reply.Restart p v) = restart 0x80 ∷ connection p v ∷ []
 
 abbrev pub isSilent : Reply → Bool
 isSilent reply.None = true
@@ -101,6 +106,8 @@ isSilent (reply.ReleaseCompleteWith c) = false
 isSilent (reply.Status s c) = false
 isSilent reply.RestartAcknowledgeAll = false
 isSilent (reply.RestartAcknowledge p v) = false
+isSilent reply.RestartAll = false
+isSilent (reply.Restart p v) = false
 
 -- the message that a reply with this flag and call reference is
 abbrev pub meant : Bool → ℕ → Reply → Message

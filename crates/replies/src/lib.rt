@@ -58,6 +58,9 @@ pub enum Reply {
     RestartAcknowledgeAll,
     // VPCI and VCI.
     RestartAcknowledge(u16, u16),
+    // Our own RESTART: of all pairs, and of a VPCI and VCI.
+    RestartAll,
+    Restart(u16, u16),
 }
 
 // What an event sends: a reply, or SETUP with the Connection identifier of a VPCI and a VCI and then an offer's body.
@@ -246,19 +249,28 @@ fn write_status(room: &mut [u8], flag: bool, reference: u32, state: u8, why: Cau
     put_cause(room, second, why)
 }
 
-fn write_restart_all(room: &mut [u8], flag: bool, reference: u32) -> usize
+// A message with a Restart indicator of all pairs.
+fn write_restart_all(room: &mut [u8], flag: bool, reference: u32, kind: u8) -> usize
     requires { ⌜ 1024 ≤ length (now room) ⌝ }
-    ensures { λ r. ⌜ Fills (now (room .entry)) (octets (message flag reference 0x4E (restart 0x82 ∷ []))) (now (room .exit)) r ⌝ }
+    ensures { λ r. ⌜ Fills (now (room .entry)) (octets (message flag reference kind (restart 0x82 ∷ []))) (now (room .exit)) r ⌝ }
 {
-    let at = put_header(room, flag, reference, 0x4E, 5);
+    let at = put_header(room, flag, reference, kind, 5);
     put_short(room, at, 0x79, 0x82)
 }
 
-fn write_restart_pair(room: &mut [u8], flag: bool, reference: u32, vpci: u16, vci: u16) -> usize
+// A message with a Restart indicator of one pair, and its Connection identifier.
+fn write_restart_pair(
+    room: &mut [u8],
+    flag: bool,
+    reference: u32,
+    kind: u8,
+    vpci: u16,
+    vci: u16,
+) -> usize
     requires { ⌜ 1024 ≤ length (now room) ⌝ }
-    ensures { λ r. ⌜ Fills (now (room .entry)) (octets (message flag reference 0x4E (restart 0x80 ∷ connection vpci vci ∷ []))) (now (room .exit)) r ⌝ }
+    ensures { λ r. ⌜ Fills (now (room .entry)) (octets (message flag reference kind (restart 0x80 ∷ connection vpci vci ∷ []))) (now (room .exit)) r ⌝ }
 {
-    let first = put_header(room, flag, reference, 0x4E, 14);
+    let first = put_header(room, flag, reference, kind, 14);
     let second = put_short(room, first, 0x79, 0x80);
     put_connection(room, second, vpci, vci)
 }
@@ -285,14 +297,17 @@ fn write(room: &mut [u8], flag: bool, reference: u32, reply: Reply) -> usize
         Reply::ReleaseComplete => write_bare(room, flag, reference, 0x5A),
         Reply::ReleaseCompleteWith(why) => write_cause(room, flag, reference, 0x5A, why),
         Reply::Status(state, why) => write_status(room, flag, reference, state, why),
-        Reply::RestartAcknowledgeAll => write_restart_all(room, flag, reference),
+        Reply::RestartAcknowledgeAll => write_restart_all(room, flag, reference, 0x4E),
         Reply::RestartAcknowledge(vpci, vci) => write_restart_pair(
             room,
             flag,
             reference,
+            0x4E,
             vpci,
             vci,
         ),
+        Reply::RestartAll => write_restart_all(room, flag, reference, 0x46),
+        Reply::Restart(vpci, vci) => write_restart_pair(room, flag, reference, 0x46, vpci, vci),
     }
 }
 

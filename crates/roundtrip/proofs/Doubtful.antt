@@ -1,8 +1,8 @@
--- The pairs in doubt, saved and read back.
---   Doubted                 what is so of each pair in doubt: permitted, and on no call
---   number-in               a number of the list is that of a pair in doubt
---   doubts-fit              they have room in the form
---   doubts-kept             they keep the rules
+-- Pairs in doubt, or out of service, saved and read back.
+--   number-in               a number of the list is that of one of the pairs
+--   pairs-fit               they have room in the form
+--   Alone                   what is so of each pair: permitted, on no call, and in no other list
+--   pairs-kept              they keep the rules
 -- Over tidy pairs. Assumes nothing.
 use Prim.Native.Nat.{ℕ, _/_, _%_, _<_}
 use mathlib.Core.Path.{_≡_, refl}
@@ -20,17 +20,17 @@ use Rattle.pairs.specs.Pairs.{isNumber, listed, inPairs, Tidy}
 use Rattle.pairs.proofs.Laws.{tidy-listed}
 use Rattle.calls.specs.Calls.{holdsPair}
 use Rattle.table.specs.declared.Table.{Table}
-use Rattle.rules.specs.Rules.{isLost, doubtsKept}
-use Rattle.roundtrip.proofs.Tables.{Doubtful}
+use Rattle.rules.specs.Rules.{isLost, pairsKept}
+use Rattle.roundtrip.proofs.Tables.{Listed}
 
 pub number-in : (ps : Pairs) (k : ℕ) → k < length (listed ps) → inPairs ps (getD (listed ps) k 0 / 65536) (getD (listed ps) k 0 % 65536) ≡ true
 number-in ps k h =
     let n = getD (listed ps) k 0 in
     some-at (isNumber (n / 65536) (n % 65536)) 0 (listed ps) k h (rw (eq-eqb (n / 65536) (n / 65536) refl, eq-eqb (n % 65536) (n % 65536) refl))
 
--- a VPCI of a pair in doubt has room in two octets
-pub doubts-fit : (ps : Pairs) → Tidy ps → ((p v : ℕ) → inPairs ps p v ≡ true → p < 65536) → Doubtful ps
-doubts-fit ps t each = record {
+-- a VPCI has room in two octets
+pub pairs-fit : (ps : Pairs) → Tidy ps → ((p v : ℕ) → inPairs ps p v ≡ true → p < 65536) → Listed ps
+pairs-fit ps t each = record {
   few = omega (arith, tidy-listed ps t, t .most);
   small = λ k.
       by-test (ltb k (length (listed ps)))
@@ -39,14 +39,15 @@ doubts-fit ps t each = record {
   zeros = t .zeros;
 }
 
-pub record Doubted (t : Table) (p v : ℕ) : Type 0 where
+pub record Alone (t : Table) (others : Pairs) (p v : ℕ) : Type 0 where
   pub allowed : permitted (t .pool) p v ≡ true
   pub unheld : someOf (holdsPair p v) (t .slots .all) ≡ false
+  pub elsewhere : inPairs others p v ≡ false
 
-pub doubts-kept : (t : Table) → Tidy (t .doubts) → ((p v : ℕ) → inPairs (t .doubts) p v ≡ true → Doubted t p v) → doubtsKept t ≡ true
-doubts-kept t d each =
-    let ns = listed (t .doubts) in
+pub pairs-kept : (t : Table) (others ps : Pairs) → Tidy ps → ((p v : ℕ) → inPairs ps p v ≡ true → Alone t others p v) → pairsKept t others ps ≡ true
+pairs-kept t others ps d each =
+    let ns = listed ps in
     rw (
       d .order,
-      some-none (isLost t) 0 ns (λ k h. let e = each (getD ns k 0 / 65536) (getD ns k 0 % 65536) (number-in (t .doubts) k h) in rw (e .allowed, e .unheld)),
+      some-none (isLost t others) 0 ns (λ k h. let e = each (getD ns k 0 / 65536) (getD ns k 0 % 65536) (number-in ps k h) in rw (e .allowed, e .unheld, e .elsewhere)),
     )

@@ -7,25 +7,31 @@
 use Prim.Native.Nat.{ℕ, suc, _≤_, _<_}
 use mathlib.Core.Path.{_≡_, refl, sym, ap, _∙_}
 use mathlib.Core.Logic.{_⊎_, inl, inr}
-use mathlib.Core.Bool.{Bool, true, false}
+use mathlib.Core.Bool.{Bool, true, false, not, or-true}
 use mathlib.Core.List.{List, [], _∷_}
 use native.Mathlib.Omega.{arith}
 use lib.Dec.{eqb}
 use lib.ListN.{length, getD}
-use borrow.Author.Tests.{eqb-true, eq-eqb, le-leb, lt-ltb, le-ltb}
+use borrow.Author.Tests.{eqb-true, eqb-false, eq-eqb, le-leb, lt-ltb, le-ltb}
 use Rattle.octets.specs.Octets.{equal}
 use Rattle.octets.proofs.Equal.{same-equal}
 use Rattle.traffic.specs.Traffic.{member}
 use Rattle.replies.specs.Reply.{replyRoom}
 use Rattle.channels.specs.Some.{someOf}
+use Rattle.channels.specs.Channels.{permitted}
+use Rattle.channels.specs.declared.Pool.{Pool}
 use Rattle.channels.proofs.Cases.{by-test, clash}
-use Rattle.provisioning.specs.Provisioning.{allBelow, provision}
+use Rattle.channels.proofs.Some.{some-none}
+use Rattle.pairs.specs.Pairs.{inPairs}
+use Rattle.pairs.proofs.Laws.{tidy-listed}
+use Rattle.provisioning.specs.Provisioning.{provision}
 use Rattle.calls.specs.declared.State.{State}
 use Rattle.calls.specs.declared.Hold.{Hold}
 use Rattle.calls.specs.declared.Hold.the-variants.{Empty, Live}
 use Rattle.calls.specs.declared.Slot.{Slot}
-use Rattle.calls.specs.Calls.{noSlot, holdsPair}
+use Rattle.calls.specs.Calls.{noSlot, emptyHold, isLive, holdsPair}
 use Rattle.calls.specs.Timers.{largestReading}
+use Rattle.service.specs.declared.GlobalState.{GlobalState}
 use Rattle.slots.specs.Slots.{slotCount}
 use Rattle.table.specs.declared.Table.{Table}
 use Rattle.outcome.specs.declared.Started.{Started}
@@ -34,13 +40,13 @@ use Rattle.control.specs.Events.{startOf}
 use Rattle.control.specs.Happens.{Event, happens, after}
 use Rattle.saved.specs.Form.{formOf}
 use Rattle.reading.specs.Reading.{rangeNumbers, pairNumbers, tableIn}
-use Rattle.rules.specs.Rules.{slotKept, doubtsKept}
+use Rattle.rules.specs.Rules.{doubtsKept, marksKept, waitKept, requestKept, tableKept}
 use Rattle.reload.specs.Reload.{isForm, reloadIn, reloadOf}
 use Rattle.reload.proofs.Answered.{all-pass}
 use Rattle.reached.specs.Reached.{Beginning, start, reload, begun, Reached}
-use Rattle.views.specs.Tables.{slotAt}
+use Rattle.views.specs.Tables.{slotAt, Holds, InDoubt, IsOut}
 use Rattle.views.specs.Effects.{labelOf, readingOf, roomOf}
-use Rattle.safety.specs.Sound.{StateSound, in-N3, in-N6, in-N9, in-N10, by-host, by-timer, Sound, ReferencesFit}
+use Rattle.safety.specs.Sound.{StateSound, in-N3, in-N6, in-N9, in-N10, by-host, by-timer, GlobalSound, none-sent, one-sent, all-sent, Sound, ReferencesFit}
 use Rattle.safety.proofs.FixedAnswers.{number}
 use Rattle.safety.proofs.FixedStart.{start-accepts}
 use Rattle.safety.proofs.Tables.{some-held}
@@ -49,9 +55,10 @@ use Rattle.safety.proofs.Sound.{reached-sound}
 use Rattle.safety.proofs.References.{form-fits, reached-fits}
 use Rattle.safety.proofs.Reloaded.{reload-in, reload-sound}
 use Rattle.roundtrip.specs.Roundtrip.{Provisioned, Savable, taken, SavedAndReloaded}
+use Rattle.roundtrip.proofs.Fields.{RequestFits}
 use Rattle.roundtrip.proofs.Calls.{StateFits, HoldFits, AllFit}
-use Rattle.roundtrip.proofs.Tables.{Doubtful, lists-back, table-back}
-use Rattle.roundtrip.proofs.Doubtful.{doubts-fit, doubts-kept}
+use Rattle.roundtrip.proofs.Tables.{Lists, lists-back, table-back}
+use Rattle.roundtrip.proofs.Doubtful.{number-in, pairs-fit, pairs-kept}
 use Rattle.roundtrip.proofs.Kept.{sound-kept}
 
 -- Room in the fields.
@@ -88,32 +95,90 @@ all-fit (s ∷ ss) h = (h 0, all-fit ss (λ i. h (suc i)))
 pub sound-fits : (t : Table) → Sound t → ReferencesFit t → AllFit (t .slots .all)
 sound-fits t s f = all-fit (t .slots .all) (λ i. hold-fits t s f i (slotAt t i .hold) refl)
 
--- The pairs in doubt of a sound table.
+-- The lists of a sound table, and our RESTART.
 
-sound-doubtful : (t : Table) → Sound t → Doubtful (t .doubts)
-sound-doubtful t s = doubts-fit (t .doubts) (s .doubts-tidy) (λ p v h. let n = s .numbers p v (s .doubt-permitted p v h) in omega (arith, n .0))
+module _ (t : Table) (s : Sound t) where
+  in-doubt-fits : (p v : ℕ) → InDoubt t p v → p < 65536
+  in-doubt-fits p v h = let n = s .numbers p v (s .doubt-permitted p v h) in omega (arith, n .0)
 
-sound-doubts-kept : (t : Table) → Sound t → doubtsKept t ≡ true
-sound-doubts-kept t s = doubts-kept t (s .doubts-tidy) (λ p v h. record {
-  allowed = s .doubt-permitted p v h;
-  unheld = by-test (someOf (holdsPair p v) (t .slots .all)) (λ y. absurd (s .doubt-not-held p v h (some-held t p v y))) (λ n. n);
-})
+  marked-fits : (p v : ℕ) → inPairs (t .out .pairs) p v ≡ true → p < 65536
+  marked-fits p v h = let n = s .numbers p v (s .mark-permitted p v h) in omega (arith, n .0)
+
+  sound-lists : Lists t
+  sound-lists = record {
+    doubts = pairs-fit (t .doubts) (s .doubts-tidy) in-doubt-fits;
+    marks = pairs-fit (t .out .pairs) (s .marks-tidy) marked-fits;
+  }
+
+  held-not : (p v : ℕ) → (Holds t p v → ⊥) → someOf (holdsPair p v) (t .slots .all) ≡ false
+  held-not p v not-held = by-test (someOf (holdsPair p v) (t .slots .all)) (λ y. absurd (not-held (some-held t p v y))) (λ n. n)
+
+  out-by-mark : (p v : ℕ) → inPairs (t .out .pairs) p v ≡ true → IsOut t p v
+  out-by-mark p v h = rw h (or-true (t .out .all))
+
+  sound-doubts-kept : doubtsKept t ≡ true
+  sound-doubts-kept = pairs-kept t (t .out .pairs) (t .doubts) (s .doubts-tidy) (λ p v h. record {
+    allowed = s .doubt-permitted p v h;
+    unheld = held-not p v (s .doubt-not-held p v h);
+    elsewhere = by-test (inPairs (t .out .pairs) p v) (λ y. absurd (s .out-not-doubtful p v (out-by-mark p v y) h)) (λ n. n);
+  })
+
+  no-doubt : t .out .all ≡ true → t .doubts .count ≡ 0
+  no-doubt all =
+      by-test (eqb (t .doubts .count) 0)
+      (λ y. eqb-true (t .doubts .count) 0 y)
+      (λ n.
+      let some = eqb-false (t .doubts .count) 0 n in
+      let long = tidy-listed (t .doubts) (s .doubts-tidy) in
+      let first = number-in (t .doubts) 0 (omega (arith, long, some)) in
+      absurd (s .out-not-doubtful _ _ (rw all) first))
+
+  no-call : t .out .all ≡ true → someOf isLive (t .slots .all) ≡ false
+  no-call all =
+      some-none isLive noSlot (t .slots .all) (λ i h. empty i (slotAt t i .hold) refl)
+    where
+      empty : (i : ℕ) (x : Hold) → slotAt t i .hold ≡ x → not (emptyHold x) ≡ false
+      empty i Empty e = refl
+      empty i (Live c q) e =
+          absurd (s .out-not-held (c .vpci) (c .vci) (rw all)
+          (record { slot = i; call = c; state = q; live = e; pair = record { vpci = refl; vci = refl } }))
+
+  sound-marks-kept : marksKept t ≡ true
+  sound-marks-kept =
+      rw (pairs-kept t (t .doubts) (t .out .pairs) (s .marks-tidy) (λ p v h. record {
+        allowed = s .mark-permitted p v h;
+        unheld = held-not p v (s .out-not-held p v (out-by-mark p v h));
+        elsewhere = by-test (inPairs (t .doubts) p v) (λ y. absurd (s .out-not-doubtful p v (out-by-mark p v h) y)) (λ n. n);
+      }))
+      (by-test (t .out .all) (λ y. rw (y, eq-eqb (t .doubts .count) 0 (no-doubt y), no-call y)) (λ n. rw n))
+
+request-kept : (last : ℕ) (pool : Pool) (numbers : (p v : ℕ) → permitted pool p v ≡ true → (p ≤ 255) × (32 ≤ v) × (v ≤ 65535)) → last ≤ largestReading
+    → (g : GlobalState) → GlobalSound last pool g → (waitKept last pool g ≡ true) × RequestFits g
+request-kept last pool numbers high g none-sent = (refl, tt)
+request-kept last pool numbers high g (one-sent p v second d h k) =
+    let n = numbers p v h in
+    (rw (le-leb d _ k, h), (omega (arith, n .0), omega (arith, n .2), omega arith))
+request-kept last pool numbers high g (all-sent second d k) = (rw (le-leb d _ k), omega arith)
+
+sound-request : (t : Table) → Sound t → (requestKept t ≡ true) × RequestFits (t .global .state)
+sound-request t s = request-kept (t .last) (t .pool) (s .numbers) (s .last-high) (t .global .state) (s .global-sound)
 
 -- The form of a savable table is taken.
 
 form-taken : (count : ℕ) (f : List ℕ) (t : Table) → tableIn count f ≡ t → formOf t ≡ f → provision (rangeNumbers f) (pairNumbers f) .accepted ≡ true
-    → t .last ≤ largestReading → doubtsKept t ≡ true → allBelow (slotKept t) count ≡ true → reloadIn count f ≡ taken t
-form-taken count f t back same accepted small doubts kept =
+    → t .last ≤ largestReading → tableKept count t ≡ true → reloadIn count f ≡ taken t
+form-taken count f t back same accepted small kept =
     let own : equal (formOf t) f ≡ true = ap (equal (formOf t)) (sym same) ∙ same-equal (formOf t) in
-    sym (all-pass count f t (sym back) accepted (le-leb (t .last) largestReading small) doubts kept own)
+    sym (all-pass count f (provision (rangeNumbers f) (pairNumbers f)) refl t (sym back) accepted (le-leb (t .last) largestReading small) kept own)
 
 taken-in : (count : ℕ) (t : Table) → Savable t → length (t .slots .all) ≡ count → reloadIn count (formOf t) ≡ taken t
 taken-in count t v size =
     let s = v .sound in
     let small : t .last < 18446744073709551616 = omega (arith, s .last-high) in
-    let d = sound-doubtful t s in
-    form-taken count (formOf t) t (table-back count t (v .provisioned) d small size (sound-fits t s (v .references))) refl
-    (lists-back t (v .provisioned) d) (s .last-high) (sound-doubts-kept t s) (sound-kept t s count)
+    let l = sound-lists t s in
+    let request = sound-request t s in
+    form-taken count (formOf t) t (table-back t (v .provisioned) l count small (request .1) size (sound-fits t s (v .references))) refl
+    (lists-back t (v .provisioned) l) (s .last-high) (rw (sound-doubts-kept t s, sound-marks-kept t s, request .0) (sound-kept t s count))
 
 pub taken-each : (t : Table) → Savable t → reloadOf (formOf t) ≡ taken t
 taken-each t v = taken-in slotCount t v (v .sound .has-slots)

@@ -1,24 +1,27 @@
--- Laws of the loops over the slots and over the pairs in doubt.
+-- Laws of the loops over the slots and over pairs.
 --   spot-nothing, spot-at        what a spot says of the slot that a search found
 --   ascending-here, ascending-not-here, ascending-end     pairs that ascend; what is left of the list is `drop i (listed ps)`
 -- Assumes nothing.
 use Prim.Native.Nat.{ℕ, _+_, _≤_, _<_}
 use mathlib.Core.Path.{_≡_, refl, sym, ap, _∙_}
 use mathlib.Core.Bool.{true, false}
-use mathlib.Core.List.{List, _∷_}
+use mathlib.Core.List.{List, [], _∷_, map}
 use native.Mathlib.Omega.{arith}
 use lib.Dec.{eqb, ltb}
 use lib.ListN.{getD, drop, drop-of-length-le}
 use borrow.Author.Tests.{lt-ltb, le-ltb, ltb-true, ltb-false}
 use Rattle.channels.proofs.Cases.{by-test}
+use Rattle.channels.specs.Some.{someOf}
+use Rattle.channels.specs.declared.Named.the-variants.{All}
 use Rattle.pairs.specs.declared.Pairs.{Pairs}
 use Rattle.pairs.specs.Pairs.{listed, ascending}
 use Rattle.pairs.proofs.Places.{Span, listed-next}
 use Rattle.calls.specs.declared.Slot.{Slot}
+use Rattle.calls.specs.Calls.{isLive, isNamed}
 use Rattle.first.specs.declared.Found.{Found}
 use Rattle.first.specs.declared.Found.the-variants.{Nothing as NoPlace, At as PlaceAt}
 use Rattle.slots.specs.declared.Spot.the-variants.{Nothing, At}
-use Rattle.slots.specs.Slots.{spot}
+use Rattle.slots.specs.Slots.{isSet, spot}
 use Rattle.rules.specs.Rules.{isAt}
 
 pub spot-nothing : (ss : List Slot) (f : Found) (slot : ℕ) → spot ss f ≡ Nothing → isAt slot f ≡ false

@@ -1,7 +1,7 @@
-// The rules that a reloaded table keeps: a form whose table breaks one is refused.
-//   are_slots_kept      each call: its reference, pair, state, timer, side and cause, and that no other call has its pair or reference
-//   are_doubts_kept     the pairs in doubt
-// `are_slots_kept` asks for a last reading that is not refused. Assumes nothing.
+// The rules that the table of a saved form keeps: a form whose table breaks one is refused.
+//   is_kept      each call: its reference, pair, state, timer, side and cause, and that no other call has its pair or reference;
+//                the pairs in doubt and those out of service; our RESTART
+// `is_kept` asks for a last reading that is not refused. Assumes nothing.
 use calls::Call;
 use calls::Clearing;
 use calls::Hold;
@@ -9,8 +9,12 @@ use calls::State;
 use calls::T303;
 use calls::T308;
 use calls::T310;
+use channels::Named;
+use channels::Pool;
 use first::Found;
 use pairs::Pairs;
+use service::GlobalState;
+use service::T316;
 use slots::SLOTS;
 use slots::Slots;
 use slots::Spot;
@@ -24,7 +28,7 @@ ghost use Rattle.calls.specs.Timers.{largestReading};
 ghost use Rattle.first.specs.First.{place};
 ghost use Rattle.slots.specs.Slots.{slotCount};
 ghost use Rattle.provisioning.specs.Provisioning.{allBelow};
-ghost use Rattle.rules.specs.Rules.{causeKept, stateKept, isAt, callKept, slotKept, isLost, doubtsKept};
+ghost use Rattle.rules.specs.Rules.{causeKept, stateKept, isAt, callKept, slotKept, isLost, pairsKept, allKept, marksKept, namedKept, waitKept, tableKept};
 
 // The cause of a call that is being cleared.
 fn is_cause_kept(network: bool, clearing: Clearing) -> bool
@@ -137,7 +141,7 @@ fn is_slot_kept(table: Table, slot: usize) -> bool
 }
 
 // Every slot keeps them.
-pub fn are_slots_kept(table: Table) -> bool
+fn are_slots_kept(table: Table) -> bool
     requires { ⌜ table .last ≤ largestReading ⌝ }
     ensures { λ r. ⌜ r ≡ allBelow (slotKept table) slotCount ⌝ }
 {
@@ -151,14 +155,14 @@ pub fn are_slots_kept(table: Table) -> bool
     true
 }
 
-// If each pair in doubt is lower than the next.
-fn is_ascending(doubts: Pairs) -> bool
-    ensures { λ r. ⌜ r ≡ ascending (listed doubts) ⌝ }
+// If each pair is lower than the next.
+fn is_ascending(pairs: Pairs) -> bool
+    ensures { λ r. ⌜ r ≡ ascending (listed pairs) ⌝ }
 {
-    let n = doubts.size();
+    let n = pairs.size();
     let mut i: usize = 0;
     while i + 1 < n {
-        if doubts.numbers[i + 1] <= doubts.numbers[i] {
+        if pairs.numbers[i + 1] <= pairs.numbers[i] {
             return false;
         }
         i += 1;
@@ -176,9 +180,9 @@ fn is_held(slots: Slots, vpci: u16, vci: u16) -> bool
     }
 }
 
-// If a pair is not permitted, or a call holds it.
-fn is_lost(table: Table, number: u32) -> bool
-    ensures { λ r. ⌜ r ≡ isLost table number ⌝ }
+// If a pair is not permitted, or a call holds it, or it is one of the others.
+fn is_lost(table: Table, others: Pairs, number: u32) -> bool
+    ensures { λ r. ⌜ r ≡ isLost table others number ⌝ }
 {
     let pool = table.pool;
     let slots = table.slots;
@@ -187,18 +191,20 @@ fn is_lost(table: Table, number: u32) -> bool
     if !pool.permits(vpci, vci) {
         return true;
     }
-    is_held(slots, vpci, vci)
+    if is_held(slots, vpci, vci) {
+        return true;
+    }
+    others.has(vpci, vci)
 }
 
-fn is_some_lost(table: Table) -> bool
-    ensures { λ r. ⌜ r ≡ someOf (isLost table) (listed (table .doubts)) ⌝ }
+fn is_some_lost(table: Table, others: Pairs, pairs: Pairs) -> bool
+    ensures { λ r. ⌜ r ≡ someOf (isLost table others) (listed pairs) ⌝ }
 {
-    let doubts = table.doubts;
-    let n = doubts.size();
+    let n = pairs.size();
     let mut i: usize = 0;
     while i < n {
-        let number = doubts.numbers[i];
-        if is_lost(table, number) {
+        let number = pairs.numbers[i];
+        if is_lost(table, others, number) {
             return true;
         }
         i += 1;
@@ -206,13 +212,90 @@ fn is_some_lost(table: Table) -> bool
     false
 }
 
-// The pairs in doubt ascend, and none is lost.
-pub fn are_doubts_kept(table: Table) -> bool
-    ensures { λ r. ⌜ r ≡ doubtsKept table ⌝ }
+// The pairs ascend, and none is lost.
+fn are_pairs_kept(table: Table, others: Pairs, pairs: Pairs) -> bool
+    ensures { λ r. ⌜ r ≡ pairsKept table others pairs ⌝ }
 {
-    let doubts = table.doubts;
-    if !is_ascending(doubts) {
+    if !is_ascending(pairs) {
         return false;
     }
-    !is_some_lost(table)
+    !is_some_lost(table, others, pairs)
+}
+
+// With all pairs out of service, none is in doubt, and none is held.
+fn is_all_kept(table: Table) -> bool
+    ensures { λ r. ⌜ r ≡ allKept table ⌝ }
+{
+    let out = table.out;
+    if out.all {
+        let doubts = table.doubts;
+        if doubts.count == 0 {
+            let slots = table.slots;
+            return !slots.any_named(Named::All);
+        }
+        return false;
+    }
+    true
+}
+
+// The pairs out of service.
+fn are_marks_kept(table: Table) -> bool
+    ensures { λ r. ⌜ r ≡ marksKept table ⌝ }
+{
+    let out = table.out;
+    let marks = out.pairs;
+    let doubts = table.doubts;
+    if !are_pairs_kept(table, doubts, marks) {
+        return false;
+    }
+    is_all_kept(table)
+}
+
+// One pair that our RESTART names is permitted.
+fn is_named_kept(pool: Pool, named: Named) -> bool
+    ensures { λ r. ⌜ r ≡ namedKept pool named ⌝ }
+{
+    match named {
+        Named::All => true,
+        Named::Pair(vpci, vci) => pool.permits(vpci, vci),
+    }
+}
+
+// Our RESTART, with its timer.
+fn is_wait_kept(last: u64, pool: Pool, state: GlobalState) -> bool
+    requires { ⌜ last ≤ largestReading ⌝ }
+    ensures { λ r. ⌜ r ≡ waitKept last pool state ⌝ }
+{
+    match state {
+        GlobalState::Null => true,
+        GlobalState::RestartRequest(named, _, deadline) => {
+            if last + T316 < deadline {
+                return false;
+            }
+            is_named_kept(pool, named)
+        }
+    }
+}
+
+// The table keeps every rule.
+pub fn is_kept(table: Table) -> bool
+    requires { ⌜ table .last ≤ largestReading ⌝ }
+    ensures { λ r. ⌜ r ≡ tableKept slotCount table ⌝ }
+{
+    let out = table.out;
+    let marks = out.pairs;
+    let doubts = table.doubts;
+    if !are_pairs_kept(table, marks, doubts) {
+        return false;
+    }
+    if !are_marks_kept(table) {
+        return false;
+    }
+    let global = table.global;
+    let state = global.state;
+    let pool = table.pool;
+    if !is_wait_kept(table.last, pool, state) {
+        return false;
+    }
+    are_slots_kept(table)
 }

@@ -1,5 +1,5 @@
 -- What an event does to the slots of a table, with the notice that it names.
---   Acts           the view: what a change does, seven ways
+--   Acts           the view: what a change does, nine ways
 --   does-acts      what every accepted event does, in it
 -- Assumes nothing.
 use Prim.Native.Nat.{ℕ}
@@ -19,7 +19,9 @@ use Rattle.first.specs.First.{place}
 use Rattle.header.specs.declared.Header.{Header}
 use Rattle.verdicts.specs.declared.Verdict.{Verdict}
 use Rattle.effects.specs.declared.Change.{Change}
-use Rattle.effects.specs.declared.Change.the-variants.{Keep, Put, Doubt, Restart}
+use Rattle.effects.specs.declared.Change.the-variants.{Keep, Put, Doubt, Restart, Request, PutBack}
+use Rattle.effects.specs.declared.Ending.{Ending}
+use Rattle.effects.specs.declared.Ending.the-variants.{User, Acknowledged, Expired}
 use Rattle.effects.specs.declared.Effect.{Effect}
 use Rattle.effects.specs.Effect.{fated}
 use Rattle.table.specs.declared.Table.{Table}
@@ -31,7 +33,7 @@ use Rattle.views.proofs.Verdicts as verdict
 use Rattle.views.proofs.View as view
 use Rattle.safety.specs.Flags.{NoNotice}
 
--- a call is asked, goes to another state, is answered, is gone; calls on the pairs of a RESTART are gone
+-- a call is asked, goes to another state, is answered, is gone; calls on the pairs of a RESTART are gone; our RESTART is sent, pairs are put back
 pub data Acts (t : Table) (e : Event) : Change → Type 0 where
   keeps : Acts t e Keep
   asks : (i : ℕ) (c : Call) (q : State) → place isEmpty (t .slots .all) ≡ At i → ¬ NoNotice e → Acts t e (Put i (liveSlot c q) 1)
@@ -39,7 +41,9 @@ pub data Acts (t : Table) (e : Event) : Change → Type 0 where
   answers : (i : ℕ) (c : Call) (q : State) → HasCall t i c q → q ≢ N10 → ¬ NoNotice e → Acts t e (Put i (liveSlot c N10) 2)
   ends : (i : ℕ) (c : Call) (q : State) → HasCall t i c q → ¬ NoNotice e → Acts t e (Put i noSlot 3)
   loses : (i : ℕ) (c : Call) (q : State) → HasCall t i c q → ¬ NoNotice e → Acts t e (Doubt i (c .vpci) (c .vci))
-  restarts : (which : Named) → ¬ NoNotice e → Acts t e (Restart which)
+  restarts : (which : Named) (why : Ending) → ¬ NoNotice e → Acts t e (Restart which why)
+  requests : (which : Named) (second : Bool) (d : ℕ) → Acts t e (Request which second d)
+  puts-back : Acts t e PutBack
 
 -- states that are not N10
 N6-other : (d : ℕ) → N6 d ≢ N10
@@ -95,9 +99,14 @@ does-acts t e x (view.admits m h i p v is a f g) = asks i _ _ f (message-own m h
 does-acts t e x (view.offers i p v is f g) = asks i _ _ f (offer-own e is)
 does-acts t e x (view.judges m h i c q is f g) =
     judged-acts t e (message-own m h e is) i c q g (readingOf e) true _ (verdict.judged (readingOf e) true m h q)
-does-acts t e x (view.fires i c q is f g) =
+does-acts t e x (view.fires i c q is z f g) =
     judged-acts t e (tick-own e is) i c q g (readingOf e) (noRoom t) _ (verdict.expired (readingOf e) (noRoom t) q)
 does-acts t e x (view.connects i c q is g s) = moves i c q N10 g (λ own. absurd (own (connect-none i e is)))
 does-acts t e x (view.clears i cause c q is g host) = moves i c q _ g (λ _. N12-other _ _)
 does-acts t e x (view.declines m h n d is a) = keeps
-does-acts t e x (view.restarts m h which a is n) = restarts which (message-own m h e (is .is-message))
+does-acts t e x (view.restarts m h which a is n) = restarts which User (message-own m h e (is .is-message))
+does-acts t e x (view.requests target is w m) = requests _ _ _
+does-acts t e x (view.acknowledges m h which second d is g same) = restarts which Acknowledged (message-own m h e (is .is-message))
+does-acts t e x (view.puts-back is) = puts-back
+does-acts t e x (view.sends-again which second d is g z full) = requests _ _ _
+does-acts t e x (view.withdraws which d is g z room) = restarts which Expired (tick-own e is)

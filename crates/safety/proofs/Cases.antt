@@ -1,12 +1,11 @@
 -- Cases of a side, of two tests, and of a place.
 --   beq-same           a side is itself
---   either, neither    one of two tests passes, and none does
+--   either, one-passes one of two tests passes; the second does
 --   one-place          a place that is found is one place
 -- Assumes nothing.
 use Prim.Native.Nat.{ℕ}
 use mathlib.Core.Path.{_≡_, refl}
 use mathlib.Core.Bool.{Bool, true, false, _||_, Bool·beq}
-use Rattle.channels.proofs.Cases.{clash}
 use Rattle.first.specs.declared.Found.the-variants.{At}
 
 pub beq-same : (b : Bool) → Bool·beq b b ≡ true
@@ -17,9 +16,9 @@ pub either : {P : Type 0} (a b : Bool) → (a || b) ≡ true → (a ≡ true →
 either true b e f g = f refl
 either false b e f g = g e
 
-pub neither : (a b : Bool) → (a || b) ≡ false → (a ≡ false) × (b ≡ false)
-neither true b e = clash refl e
-neither false b e = (refl, e)
+pub one-passes : (a b : Bool) → b ≡ true → (a || b) ≡ true
+one-passes true b e = refl
+one-passes false b e = e
 
 pub one-place : (i j : ℕ) → At i ≡ At j → i ≡ j
 one-place i j h = cc

@@ -3,6 +3,7 @@
 --   unsaid                     octets of a message that holds no Cause do not say 45
 --   says-45                    octets that say 45 are of a reply that is 45
 --   admission-not-45, no-call-not-45, global-not-45, heard-not-45       no reply to a message is, but the one for no free pair
+--   own-not-45                 nor is our RESTART
 --   host-not-45, judged-not-45     and none of the host's, or of a timer
 -- Assumes nothing.
 use Prim.Native.Nat.{ℕ, _+_, _%_}
@@ -14,6 +15,8 @@ use lib.Dec.{eqb}
 use lib.ListN.{getD}
 use borrow.Author.Tests.{eq-eqb, not-true}
 use Rattle.traffic.specs.Traffic.{member}
+use Rattle.channels.specs.declared.Named.{Named}
+use Rattle.channels.specs.declared.Named.the-variants as named
 use Rattle.channels.proofs.Cases.{clash}
 use Rattle.calls.specs.declared.Clearing.{Clearing}
 use Rattle.calls.specs.declared.State.{State}
@@ -34,6 +37,7 @@ use Rattle.setup.specs.declared.Admission.the-variants.{Admitted, Refused}
 use Rattle.setup.specs.Setup.{absent, broken, foundIn, chosen, someNamed, multipointIn, allowedIn, admission}
 use Rattle.verdicts.specs.declared.Verdict.{Verdict}
 use Rattle.judging.specs.Judge.{releaseComplete, releaseReply, statusReply, noCallReply, globalReply}
+use Rattle.restarts.specs.Own.{restartOf}
 use Rattle.refusals.specs.Refusals.{hostCauses}
 use Rattle.refusals.proofs.Causes.{member-passes}
 use Rattle.views.proofs.Verdicts as verdict
@@ -53,6 +57,8 @@ causeOf (reply.ReleaseCompleteWith c) = c .number
 causeOf (reply.Status s c) = c .number
 causeOf reply.RestartAcknowledgeAll = 0
 causeOf (reply.RestartAcknowledge p v) = 0
+causeOf reply.RestartAll = 0
+causeOf (reply.Restart p v) = 0
 
 abbrev is45 : Reply → Bool
 is45 a = eqb (causeOf a % 128) 45
@@ -93,6 +99,8 @@ reply-says-45 flag r (reply.Status s c) (in-release-complete k d) = absurd (omeg
 reply-says-45 flag r (reply.Status s c) (in-status k d) = cause-octet (c .number) d
 reply-says-45 flag r reply.RestartAcknowledgeAll s = unsaid _ refl s
 reply-says-45 flag r (reply.RestartAcknowledge p v) s = unsaid _ refl s
+reply-says-45 flag r reply.RestartAll s = unsaid _ refl s
+reply-says-45 flag r (reply.Restart p v) s = unsaid _ refl s
 
 pub says-45 : (flag : Bool) (r : ℕ) (o : Outgoing) (body : List ℕ) → Says45 (sentOctets flag r o body) → sends45 o ≡ true
 says-45 flag r (outgoing.Reply a) body s = reply-says-45 flag r a s
@@ -125,8 +133,12 @@ no-call-not-45 m h =
     (verdict.by-cond Not45 (eqb (h .kind) 0x75) _ _ refl
     (verdict.by-cond Not45 (eqb (h .kind) 0x7D) _ _ (verdict.by-cond Not45 (h .whole) _ _ (status-reply-not-45 (callStateIn m 9)) refl) refl))
 
-pub global-not-45 : (h : Header) → Not45 (globalReply h)
-global-not-45 h = verdict.by-cond Not45 (eqb (h .kind) 0x7D) _ _ refl (verdict.by-cond Not45 (eqb (h .kind) 0x4E && h .flag) _ _ refl refl)
+pub global-not-45 : (state : ℕ) (h : Header) → Not45 (globalReply state h)
+global-not-45 state h = verdict.by-cond Not45 (eqb (h .kind) 0x7D) _ _ refl (verdict.by-cond Not45 (eqb (h .kind) 0x4E && h .flag) _ _ refl refl)
+
+pub own-not-45 : (which : Named) → Not45 (restartOf which)
+own-not-45 named.All = refl
+own-not-45 (named.Pair p v) = refl
 
 -- A verdict on a live call.
 

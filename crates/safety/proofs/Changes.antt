@@ -42,7 +42,7 @@ use Rattle.effects.specs.Effect.{fated}
 use Rattle.table.specs.declared.Table.{Table}
 use Rattle.table.specs.Effects.{freePair, userCall, noRoom}
 use Rattle.commands.specs.Commands.{networkCall}
-use Rattle.control.specs.Happens.{Event, message, tick, connect, clear, offer}
+use Rattle.control.specs.Happens.{Event, message, tick, connect, clear, offer, restart, put-back}
 use Rattle.views.specs.Tables.{HasCall}
 use Rattle.views.specs.Effects.{readingOf, commonOf, ownOf, refusalOf, effectOf}
 use Rattle.views.proofs.Verdicts as verdict
@@ -58,6 +58,8 @@ Source t (tick label reading room) r = ⊥
 Source t (connect label reading room slot) r = ⊥
 Source t (clear label reading room slot cause) r = ⊥
 Source t (offer label reading room body) r = r ≡ unusedReference (t .slots .all)
+Source t (restart label reading room target) r = ⊥
+Source t (put-back label reading room) r = ⊥
 
 pub record NewCall (t : Table) (e : Event) (c : Call) (q : State) : Type 0 where
   pub pair : freePair t ≡ Pair (c .vpci) (c .vci)
@@ -222,12 +224,17 @@ does-change t e order x (view.admits m h i p v is a f g) = new-change t e order 
 does-change t e order x (view.offers i p v is f g) = new-change t e order i _ _ f (network-new t e p v is g)
 does-change t e order x (view.judges m h i c q is f g) =
     verdict-change t e order true i c q _ g (verdict.judged (readingOf e) true m h q)
-does-change t e order x (view.fires i c q is f g) = verdict-change t e order (noRoom t) i c q _ g (verdict.expired (readingOf e) (noRoom t) q)
+does-change t e order x (view.fires i c q is z f g) = verdict-change t e order (noRoom t) i c q _ g (verdict.expired (readingOf e) (noRoom t) q)
 does-change t e order x (view.connects i c q is g s) = moved-change t e order i c q N10 g (λ _. in-N10 (c .network))
 does-change t e order x (view.clears i cause c q is g host) =
     moved-change t e order i c q _ g (λ _. by-host (c .network) (record { second = false; cause = cause; expired = false }) (readingOf e + t308) (omega arith) host refl)
 does-change t e order x (view.declines m h n d is a) = still t e order
 does-change t e order x (view.restarts m h which a is n) = emptied-change t e order (isNamed which)
+does-change t e order x (view.requests target is w m) = still t e order
+does-change t e order x (view.acknowledges m h which second d is g same) = emptied-change t e order (isNamed which)
+does-change t e order x (view.puts-back is) = still t e order
+does-change t e order x (view.sends-again which second d is g z full) = still t e order
+does-change t e order x (view.withdraws which d is g z room) = emptied-change t e order (isNamed which)
 
 pub accepted-reading : (t : Table) (e : Event) → refusalOf t e ≡ 0 → (t .last ≤ readingOf e) × (readingOf e ≤ largestReading)
 accepted-reading t e h =

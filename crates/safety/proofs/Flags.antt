@@ -33,6 +33,7 @@ use Rattle.slots.specs.declared.Flags.{Flags}
 use Rattle.slots.specs.Slots.{slotCount, isSet}
 use Rattle.effects.specs.declared.Change.{Change}
 use Rattle.effects.specs.declared.Change.the-variants.{Restart}
+use Rattle.effects.specs.declared.Ending.{Ending}
 use Rattle.effects.specs.Change.{noFlags, flagsAt, flagsOf, goneNotice, noticeOf}
 use Rattle.table.specs.declared.Table.{Table}
 use Rattle.table.specs.Effects.{tableAfter}
@@ -44,7 +45,7 @@ use Rattle.views.proofs.View.{by-event}
 use Rattle.safety.specs.Flags.{flagOf, CallAsked, CallAnswered, CallGone, OneFlag, NamesExactly, NoNotice, TellsAll, FlagsExact}
 use Rattle.safety.proofs.Tables.{not-live, live-within, empty-at}
 use Rattle.safety.proofs.Lists.{getD-map, passes-within, some-found, getD-replicate-default}
-use Rattle.safety.proofs.Acts.{Acts, keeps, asks, moves, answers, ends, loses, restarts, does-acts}
+use Rattle.safety.proofs.Acts.{Acts, keeps, asks, moves, answers, ends, loses, restarts, requests, puts-back, does-acts}
 
 -- one call in two states
 same-state : (c d : Call) (q r : State) → Live c q ≡ Live d r → q ≡ r
@@ -202,9 +203,9 @@ named-live which s = hold-live which (s .hold)
     hold-live (named.Pair p v) Empty e = clash e refl
     hold-live (named.Pair p v) (Live c q) e = (c, (q, refl))
 
-module _ (t : Table) (whole : HasSlots t) (e : Event) (reading : ℕ) (which : Named) where
+module _ (t : Table) (whole : HasSlots t) (e : Event) (reading : ℕ) (which : Named) (why : Ending) where
   abbrev after : Table
-  after = tableAfter t reading (Restart which)
+  after = tableAfter t reading (Restart which why)
 
   abbrev on : List Bool
   on = map (isNamed which) (t .slots .all)
@@ -212,7 +213,7 @@ module _ (t : Table) (whole : HasSlots t) (e : Event) (reading : ℕ) (which : N
   none-named-empty : isNamed which noSlot ≡ false
   none-named-empty = by-test (isNamed which noSlot) (λ y. let l = named-live which noSlot y in not-live (l .0) (l .1 .0) (l .1 .1)) (λ n. n)
 
-  on-at : (i : ℕ) → getD on i false ≡ isNamed which (slotAt t i)
+  pub on-at : (i : ℕ) → getD on i false ≡ isNamed which (slotAt t i)
   on-at i = flag-at (t .slots .all) i
     where
       flag-at : (ss : List Slot) (i : ℕ) → getD (map (isNamed which) ss) i false ≡ isNamed which (getD ss i noSlot)
@@ -291,7 +292,9 @@ acts-exact t whole e reading x (answers i c q live waiting own) =
     answered-exact t whole e i (liveSlot c N10) (live-within t i c q live) _ refl c q live own waiting refl
 acts-exact t whole e reading x (ends i c q live own) = ended-exact t whole e i noSlot (live-within t i c q live) _ refl c q live own refl
 acts-exact t whole e reading x (loses i c q live own) = ended-exact t whole e i noSlot (live-within t i c q live) _ refl c q live own refl
-acts-exact t whole e reading x (restarts which own) = gone-exact t whole e reading which own
+acts-exact t whole e reading x (restarts which why own) = gone-exact t whole e reading which why own
+acts-exact t whole e reading x (requests which second d) = quiet-exact t _ e (λ i. refl)
+acts-exact t whole e reading x puts-back = quiet-exact t _ e (λ i. refl)
 
 pub flags-exact : (t : Table) (e : Event) → HasSlots t → FlagsExact t e
 flags-exact t e whole =

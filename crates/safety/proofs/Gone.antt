@@ -42,7 +42,7 @@ use Rattle.safety.specs.Flags.{CallGone}
 use Rattle.safety.specs.Slips.{StillThere, Went, HeldUntilGone, ReleaseFreesNone}
 use Rattle.safety.proofs.Tables.{live-within}
 use Rattle.safety.proofs.Lists.{getD-map}
-use Rattle.safety.proofs.Acts.{Acts, keeps, asks, moves, answers, ends, loses, restarts, does-acts}
+use Rattle.safety.proofs.Acts.{Acts, keeps, asks, moves, answers, ends, loses, restarts, requests, puts-back, does-acts}
 use Rattle.safety.proofs.Flags.{flags-exact}
 use Rattle.safety.proofs.Slips.{sentKind, sent-kind}
 
@@ -82,9 +82,11 @@ module _ (t : Table) (j : ℕ) (c : Call) (q : State) (live : HasCall t j c q) w
   acts-stays e reading x (answers i d p has waiting own) = moved-stays _ i d p N10 refl has
   acts-stays e reading x (ends i d p has own) = set-stays _ i noSlot refl (λ same e. inr e)
   acts-stays e reading x (loses i d p has own) = set-stays _ i noSlot refl (λ same e. inr e)
-  acts-stays e reading x (restarts which own) =
+  acts-stays e reading x (restarts which why own) =
       let at = getD-map (emptied (isNamed which)) noSlot (by-test (isNamed which noSlot) (λ y. rw y) (λ n. rw n)) (t .slots .all) j in
       by-test (isNamed which (slotAt t j)) (λ y. inr (at ∙ rw y)) (λ n. same-stays _ (at ∙ rw n))
+  acts-stays e reading x (requests which second d) = same-stays _ refl
+  acts-stays e reading x puts-back = same-stays _ refl
 
 pub held-until-gone : (t : Table) (e : Event) → HasSlots t → HeldUntilGone t e
 held-until-gone t e whole j c q live =
@@ -141,13 +143,18 @@ module _ (t : Table) where
   does-quietly e x (view.offers i p v is f g) y z = omega arith
   does-quietly e x (view.judges m h i c q is f g) y z =
       judged-quietly i c (not (h .flag)) (h .reference) (readingOf e) true q _ (verdict.judged (readingOf e) true m h q) y z
-  does-quietly e x (view.fires i c q is f g) y z =
+  does-quietly e x (view.fires i c q is n f g) y z =
       judged-quietly i c (not (c .network)) (c .reference) (readingOf e) (noRoom t) q _ (verdict.expired (readingOf e) (noRoom t) q) y z
   does-quietly e x (view.connects i c q is g s) y z = omega arith
   does-quietly e x (view.clears i cause c q is g host) y z = omega arith
   does-quietly e x (view.declines m h n d is a) y z = omega arith
   does-quietly e x (view.restarts m h which a is (view.all k g w)) y z = omega arith
   does-quietly e x (view.restarts m h which a is (view.one k p v g n f known fair)) y z = omega arith
+  does-quietly e x (view.requests target is w m) y z = omega arith
+  does-quietly e x (view.acknowledges m h which second d is g same) y z = omega arith
+  does-quietly e x (view.puts-back is) y z = omega arith
+  does-quietly e x (view.sends-again which second d is g n full) y z = omega arith
+  does-quietly e x (view.withdraws which d is g n room) y z = omega arith
 
 pub release-frees-none : (t : Table) (e : Event) → HasSlots t → ReleaseFreesNone t e
 release-frees-none t e whole release j c q live =

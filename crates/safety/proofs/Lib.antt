@@ -4,9 +4,11 @@ pub mod Tables
 pub mod SmallTable
 pub mod Refusals
 pub mod FixedAnswers
+pub mod Accepted
 pub mod FixedStart
 pub mod Changes
 pub mod Doubtful
+pub mod Marks
 pub mod Reloaded
 pub mod Sound
 pub mod References
@@ -16,3 +18,5 @@ pub mod Slips
 pub mod Acts
 pub mod Flags
 pub mod Gone
+pub mod Restarts
+pub mod RuledOut

@@ -31,8 +31,10 @@ use Rattle.replies.specs.declared.Outgoing.the-variants as outgoing
 use Rattle.setup.specs.declared.Admission.the-variants.{Admitted, Refused}
 use Rattle.setup.specs.Setup.{admission}
 use Rattle.verdicts.specs.Verdict.{because}
+use Rattle.service.specs.Service.{globalNumber}
 use Rattle.effects.specs.declared.Effect.{Effect}
 use Rattle.effects.specs.Effect.{replying}
+use Rattle.restarts.specs.Own.{namedBy}
 use Rattle.table.specs.declared.Table.{Table}
 use Rattle.table.specs.Effects.{freePair, noRoom}
 use Rattle.outcome.specs.Outcome.{Outcome, effectOctets}
@@ -50,7 +52,7 @@ use Rattle.safety.proofs.FixedAnswers.{accepted-reply, number}
 use Rattle.safety.proofs.Lists.{some-place}
 use Rattle.safety.proofs.Changes.{head-is}
 use Rattle.safety.proofs.Sound.{reached-sound}
-use Rattle.safety.proofs.Cause45.{sends45, unsaid, says-45, Not45, AdmissionNot45, admission-not-45, no-call-not-45, global-not-45, heard-not-45, host-not-45, judged-not-45}
+use Rattle.safety.proofs.Cause45.{sends45, unsaid, says-45, Not45, AdmissionNot45, admission-not-45, no-call-not-45, global-not-45, own-not-45, heard-not-45, host-not-45, judged-not-45}
 
 -- A SETUP that passed and finds no pair.
 wanted-effect : (t : Table) (label reading room : ℕ) (m : List ℕ) → PassedAllChecks t label reading room m → NoneFree t
@@ -126,20 +128,25 @@ acted-not-45 t r c which a (view.one k p v e n f known fair) = refl
 does-wants : (t : Table) (e : Event) → (view.IsTick e → Sound t) → refusalOf t e ≡ 0 → (x : Effect) → view.Does t e x → sends45 (x .outgoing) ≡ true → WantsPair t e
 does-wants t e sound zero x view.nothing s = clash s refl
 does-wants t e sound zero x (view.no-call m h is) s = clash s (no-call-not-45 m h)
-does-wants t e sound zero x (view.global m h is) s = clash s (global-not-45 h)
+does-wants t e sound zero x (view.global m h is) s = clash s (global-not-45 (globalNumber (t .global .state)) h)
 does-wants t e sound zero x (view.refuses m h c is a) s = let not : AdmissionNot45 (Refused c) = rw a at (admission-not-45 m 9) in clash s not
 does-wants t e sound zero x (view.no-slot m h is a f) s = clash s refl
 does-wants t e sound zero x (view.no-free m h i is a f g) s = setup-wants t e m h i zero (is .is-message) is a f g
 does-wants t e sound zero x (view.admits m h i p v is a f g) s = clash s refl
 does-wants t e sound zero x (view.offers i p v is f g) s = clash s refl
 does-wants t e sound zero x (view.judges m h i c q is f g) s = clash s (heard-not-45 (readingOf e) (h .kind) q _ (heard (readingOf e) m h q))
-does-wants t e sound zero x (view.fires i c q is f g) s =
+does-wants t e sound zero x (view.fires i c q is z f g) s =
     clash s
     (judged-not-45 (t .last) (c .network) (readingOf e) (noRoom t) q _ ((sound is .calls-sound i c q g) .state-sound) (expired (readingOf e) (noRoom t) q))
 does-wants t e sound zero x (view.connects i c q is g n) s = clash s refl
 does-wants t e sound zero x (view.clears i cause c q is g host) s = clash s (host-not-45 cause host)
 does-wants t e sound zero x (view.declines m h n d is a) s = clash s (declined-not-45 _ n d a)
 does-wants t e sound zero x (view.restarts m h which a is n) s = clash s (acted-not-45 t _ _ which a n)
+does-wants t e sound zero x (view.requests target is w m) s = clash s (own-not-45 (namedBy target))
+does-wants t e sound zero x (view.acknowledges m h which second d is g same) s = clash s refl
+does-wants t e sound zero x (view.puts-back is) s = clash s refl
+does-wants t e sound zero x (view.sends-again which second d is g z full) s = clash s (own-not-45 which)
+does-wants t e sound zero x (view.withdraws which d is g z room) s = clash s refl
 
 says-wants : (t : Table) (e : Event) → (view.IsTick e → Sound t) → Says45 (happens t e .reply) → WantsPair t e
 says-wants t e sound =

@@ -20,7 +20,7 @@ use Rattle.calls.specs.Calls.{noSlot}
 use Rattle.slots.specs.Slots.{slotCount, unusedReference}
 use Rattle.slots.proofs.Unused.{unused-found}
 use Rattle.table.specs.declared.Table.{Table}
-use Rattle.control.specs.Happens.{Event, message, tick, connect, clear, offer, happens, after}
+use Rattle.control.specs.Happens.{Event, message, tick, connect, clear, offer, restart, put-back, happens, after}
 use Rattle.reading.specs.Reading.{twoAt, rest, callIn, stateIn, begins, slotIn, behindSlot, slotsIn}
 use Rattle.reload.specs.Reload.{reloadIn}
 use Rattle.reached.specs.Reached.{Beginning, start, reload, begun, Reached, BegunInOctets}
@@ -45,6 +45,8 @@ source-fits t (tick label reading room) r w h s = absurd s
 source-fits t (connect label reading room slot) r w h s = absurd s
 source-fits t (clear label reading room slot cause) r w h s = absurd s
 source-fits t (offer label reading room body) r w h s = rw s (unused-fits t w)
+source-fits t (restart label reading room target) r w h s = absurd s
+source-fits t (put-back label reading room) r w h s = absurd s
 
 comes-fits : (t : Table) (e : Event) (j : ℕ) (c : Call) (q : State) → HasSlots t → InOctets e → ReferencesFit t → Comes t e j c q → c .reference < 8388608
 comes-fits t e j c q w h f (old p k s) = f j c p k
@@ -98,8 +100,11 @@ slots-fit slot (suc n) f h =
 pub form-fits : (count : ℕ) (f : List ℕ) → ((k : ℕ) → getD f k 0 < 256) → reloadIn count f .refusal ≡ 0 → ReferencesFit (reloadIn count f .table)
 form-fits count f h e =
     rw ((reload-in count f e) .1)
-    (λ i c q k. fit-at (slotsIn 0 (rest (rest (rest (rest f)))) count) i
-    (slots-fit 0 count (rest (rest (rest (rest f)))) (rest-octets (rest (rest (rest f))) (rest-octets (rest (rest f)) (rest-octets (rest f) (rest-octets f h))))) c q k)
+    (λ i c q k. fit-at (slotsIn 0 (rest (rest (rest (rest (rest (rest f)))))) count) i
+    (slots-fit 0 count (rest (rest (rest (rest (rest (rest f))))))
+    (rest-octets (rest (rest (rest (rest (rest f)))))
+    (rest-octets (rest (rest (rest (rest f))))
+    (rest-octets (rest (rest (rest f))) (rest-octets (rest (rest f)) (rest-octets (rest f) (rest-octets f h))))))) c q k)
 
 -- Every table that is reached.
 

@@ -14,7 +14,9 @@ use borrow.Author.Tests.{eqb-true, eqb-false, ltb-true, ne-eqb, lt-ltb}
 use Rattle.traffic.specs.Traffic.{member}
 use Rattle.channels.specs.declared.Channel.{Channel}
 use Rattle.channels.specs.declared.Channel.the-variants as channel
-use Rattle.channels.proofs.Cases.{by-test}
+use Rattle.channels.specs.declared.Pool.{Pool}
+use Rattle.channels.specs.Channels.{permitted}
+use Rattle.channels.proofs.Cases.{by-test, clash}
 use Rattle.calls.specs.declared.State.{State}
 use Rattle.calls.specs.declared.State.the-variants.{N3, N6, N9, N10, N12}
 use Rattle.calls.specs.declared.Call.{Call}
@@ -29,13 +31,18 @@ use Rattle.first.specs.declared.Found.{Found}
 use Rattle.first.specs.declared.Found.the-variants.{Nothing, At}
 use Rattle.first.specs.First.{place}
 use Rattle.setup.specs.Offer.{offerFits}
+use Rattle.service.specs.declared.GlobalState.{GlobalState}
+use Rattle.service.specs.declared.GlobalState.the-variants.{Null, RestartRequest}
+use Rattle.service.specs.Service.{isWaiting}
+use Rattle.restarts.specs.declared.Target.{Target}
+use Rattle.restarts.specs.declared.Target.the-variants as target
 use Rattle.table.specs.declared.Table.{Table}
 use Rattle.table.specs.Effects.{freePair}
-use Rattle.refusals.specs.Refusals.{orElse, sizeRefusal, notN3, unconnectable, inN12, unclearable, hostCauses, causeRefusal, bodyRefusal, slotRefusal, pairRefusal}
-use Rattle.control.specs.Happens.{Event, message, tick, connect, clear, offer}
+use Rattle.refusals.specs.Refusals.{orElse, sizeRefusal, notN3, unconnectable, inN12, unclearable, hostCauses, causeRefusal, bodyRefusal, slotRefusal, pairRefusal, mayRestart, targetRefusal}
+use Rattle.control.specs.Happens.{Event, message, tick, connect, clear, offer, restart, put-back}
 use Rattle.views.specs.Tables.{HasSlots, slotAt}
 use Rattle.views.specs.Effects.{labelOf, readingOf, roomOf, commonOf, ownOf, refusalOf}
-use Rattle.safety.specs.FixedAnswers.{Applies, small-room, wrong-label, too-large, too-early, empty-message, long-message, connect-no-slot, connect-empty, clear-no-slot, clear-empty, not-in-N3, in-N12, foreign-cause, long-body, unfit-body, no-empty-slot, no-free-pair}
+use Rattle.safety.specs.FixedAnswers.{Applies, small-room, wrong-label, too-large, too-early, empty-message, long-message, connect-no-slot, connect-empty, clear-no-slot, clear-empty, not-in-N3, in-N12, foreign-cause, long-body, unfit-body, no-empty-slot, no-free-pair, second-command, not-permitted, wide-vpci, wide-vci}
 use Rattle.safety.proofs.Tables.{none-free, free-none, none-empty, empty-none}
 
 -- a number that is given and is not above k
@@ -216,6 +223,38 @@ module _ (t : Table) (whole : HasSlots t) (label reading room : ℕ) (body : Lis
   pair-applied channel.None e h = no-free-pair label reading room body (none-free t e)
   pair-applied (channel.Pair p v) e h = absurd (h refl)
 
+-- 13.
+
+second-applied : (t : Table) (label reading room : ℕ) (target : Target) (g : GlobalState) → t .global .state ≡ g → isWaiting g ≡ true
+    → Applies t (restart label reading room target) 13
+second-applied t label reading room target Null f w = clash w refl
+second-applied t label reading room target (RestartRequest which second d) f w = second-command label reading room target which second d f
+
+module _ (t : Table) (label reading room : ℕ) where
+  barred-applied : (target : Target) → mayRestart (t .pool) target ≡ false → Applies t (restart label reading room target) 13
+  barred-applied target.All m = clash refl m
+  barred-applied (target.One p v) m =
+      by-test (ltb 65535 p)
+      (λ a. wide-vpci label reading room p v (ltb-true _ _ a))
+      (λ a. by-test (ltb 65535 v)
+      (λ b. wide-vci label reading room p v (ltb-true _ _ b))
+      (λ b. not-permitted label reading room p v (rw (a, b) at m)))
+
+  target-applied : (target : Target) → Given (Applies t (restart label reading room target)) (targetRefusal (t .global .state) (t .pool) target)
+  target-applied target =
+      by-test (isWaiting (t .global .state))
+      (λ w. rw w (λ h. second-applied t label reading room target (t .global .state) refl w))
+      (λ w. by-test (mayRestart (t .pool) target) (λ m. rw (w, m) (λ h. absurd (h refl))) (λ m. rw (w, m) (λ h. barred-applied target m)))
+
+  barred-reaches : (target : Target) → mayRestart (t .pool) target ≡ false → Reaches 13 (targetRefusal (t .global .state) (t .pool) target)
+  barred-reaches target m = by-test (isWaiting (t .global .state)) (λ w. rw w (omega arith)) (λ w. rw (w, m) (omega arith))
+
+wide-barred : (pool : Pool) (p v : ℕ) → 65535 < v → mayRestart pool (target.One p v) ≡ false
+wide-barred pool p v h = by-test (ltb 65535 p) (λ a. rw a) (λ a. rw (a, lt-ltb _ _ h))
+
+other-barred : (pool : Pool) (p v : ℕ) → permitted pool p v ≡ false → mayRestart pool (target.One p v) ≡ false
+other-barred pool p v h = by-test (ltb 65535 p) (λ a. rw a) (λ a. by-test (ltb 65535 v) (λ b. rw (a, b)) (λ b. rw (a, b) h))
+
 -- All events.
 
 own-applied : (t : Table) (e : Event) → HasSlots t → Given (Applies t e) (ownOf t e)
@@ -232,6 +271,8 @@ own-applied t (offer label reading room body) w =
     (given-or-else (Applies t (offer label reading room body)) (slotRefusal (place isEmpty (t .slots .all))) (pairRefusal (freePair t))
     (slot-applied t w label reading room body (place isEmpty (t .slots .all)) refl)
     (pair-applied t w label reading room body (freePair t) refl))
+own-applied t (restart label reading room target) w = target-applied t label reading room target
+own-applied t (put-back label reading room) w = λ h. absurd (h refl)
 
 pub applied : (t : Table) (e : Event) → HasSlots t → refusalOf t e ≢ 0 → Applies t e (refusalOf t e)
 applied t e w = given-or-else (Applies t e) (commonOf t e) (ownOf t e) (common-applied t e) (own-applied t e w)
@@ -273,3 +314,10 @@ reaches t e k w (no-free-pair label reading room body h) =
     own-reaches t e 12 (omega arith)
     (reaches-next 12 (bodyRefusal body) _ (omega (arith, body-high body))
     (reaches-next 12 (slotRefusal (place isEmpty (t .slots .all))) (pairRefusal (freePair t)) (omega (arith, slot-high (place isEmpty (t .slots .all)))) (rw (free-none t h) (omega arith))))
+reaches t e k w (second-command label reading room target which second d h) = own-reaches t e 13 (omega arith) (rw h (omega arith))
+reaches t e k w (not-permitted label reading room p v h) =
+    own-reaches t e 13 (omega arith) (barred-reaches t label reading room (target.One p v) (other-barred (t .pool) p v h))
+reaches t e k w (wide-vpci label reading room p v h) =
+    own-reaches t e 13 (omega arith) (barred-reaches t label reading room (target.One p v) (rw (lt-ltb _ _ h)))
+reaches t e k w (wide-vci label reading room p v h) =
+    own-reaches t e 13 (omega arith) (barred-reaches t label reading room (target.One p v) (wide-barred (t .pool) p v h))

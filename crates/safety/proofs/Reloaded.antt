@@ -2,7 +2,9 @@
 --   slots-counted            a form is read as so many slots
 --   Kept, call-kept, kept-call     a call of a table whose slots are all kept
 --   kept-state               its state with its deadline, cause and side
---   kept-doubt, doubts-read  a pair in doubt; the pairs that are read
+--   PairKept, kept-pair, pairs-read     a pair in doubt or out of service; the pairs that are read
+--   kept-global, all-kept    our RESTART; where all pairs are out of service
+--   TableKept, kept-sound    all of it
 --   form-sound               a table that a form is read as
 --   reload-in, reload-sound  a reload that is accepted
 -- Over the number of slots. Assumes nothing.
@@ -18,9 +20,13 @@ use borrow.Author.Tests.{eqb-true, eqb-false, leb-true, ltb-false, not-true, not
 use Rattle.octets.proofs.Equal.{equal-same}
 use Rattle.traffic.specs.Traffic.{member}
 use Rattle.channels.specs.Some.{someOf}
+use Rattle.channels.specs.declared.Named.the-variants.{All, Pair}
+use Rattle.channels.specs.declared.Pool.{Pool}
 use Rattle.channels.specs.Channels.{permitted, inRanges}
 use Rattle.channels.proofs.Cases.{by-test, clash, both}
-use Rattle.pairs.specs.Pairs.{room, isNumber, listed, ascending, Tidy}
+use Rattle.channels.proofs.Some.{some-at}
+use Rattle.pairs.specs.declared.Pairs.{Pairs}
+use Rattle.pairs.specs.Pairs.{room, isNumber, listed, inPairs, ascending, Tidy}
 use Rattle.pairs.proofs.Laws.{listed-packed, tidy-packed}
 use Rattle.provisioning.specs.Provisioning.{allBelow, provision}
 use Rattle.provisioning.proofs.Below.{below-at}
@@ -29,21 +35,25 @@ use Rattle.calls.specs.declared.Clearing.{Clearing}
 use Rattle.calls.specs.declared.State.{State}
 use Rattle.calls.specs.declared.State.the-variants.{N3, N6, N9, N10, N12}
 use Rattle.calls.specs.declared.Call.{Call}
-use Rattle.calls.specs.Calls.{isCall, holdsPair}
+use Rattle.calls.specs.Calls.{noSlot, isLive, isCall, holdsPair}
 use Rattle.calls.specs.Timers.{largestReading, t303, t308, t310}
 use Rattle.first.specs.declared.Found.{Found}
 use Rattle.first.specs.declared.Found.the-variants.{Nothing, At}
 use Rattle.first.specs.First.{place}
 use Rattle.slots.specs.Slots.{slotCount}
+use Rattle.service.specs.declared.GlobalState.{GlobalState}
+use Rattle.service.specs.declared.GlobalState.the-variants.{Null, RestartRequest}
+use Rattle.service.specs.Service.{t316}
 use Rattle.table.specs.declared.Table.{Table}
 use Rattle.refusals.specs.Refusals.{hostCauses}
-use Rattle.rules.specs.Rules.{causeKept, stateKept, isAt, callKept, slotKept, isLost, doubtsKept}
+use Rattle.rules.specs.Rules.{causeKept, stateKept, isAt, callKept, slotKept, isLost, pairsKept, doubtsKept, allKept, marksKept, waitKept, requestKept, tableKept}
 use Rattle.saved.specs.Form.{formOf}
-use Rattle.reading.specs.Reading.{twoAt, rest, least, rangeNumbers, pairNumbers, foursIn, doubtsIn, behindSlot, slotsIn, tableIn}
+use Rattle.reading.specs.Reading.{twoAt, rest, least, rangeNumbers, pairNumbers, foursIn, pairsIn, behindSlot, slotsIn, tableIn}
 use Rattle.reload.specs.Reload.{isForm, reloadIn, reloadOf}
-use Rattle.views.specs.Tables.{HasSlots, HasCall}
-use Rattle.safety.specs.Sound.{StateSound, in-N3, in-N6, in-N9, in-N10, by-host, by-timer, Sound}
-use Rattle.safety.proofs.Cases.{neither, one-place}
+use Rattle.search.proofs.Free.{neither}
+use Rattle.views.specs.Tables.{HasSlots, HasCall, Holds, InDoubt}
+use Rattle.safety.specs.Sound.{StateSound, in-N3, in-N6, in-N9, in-N10, by-host, by-timer, GlobalSound, none-sent, one-sent, all-sent, Sound}
+use Rattle.safety.proofs.Cases.{either, one-place}
 use Rattle.safety.proofs.Tables.{live-within, held-some}
 
 pub slots-counted : (slot n : ℕ) (f : List ℕ) → length (slotsIn slot f n) ≡ n
@@ -106,44 +116,97 @@ kept-state last false (N12 k d) e =
     let a = both (leb d (last + t308)) (causeKept false k) e in
     kept-cause last false k d (k .expired) refl (leb-true _ _ (a .0)) (a .1)
 
--- a pair in doubt that is kept
-kept-doubt : (t : Table) (p v : ℕ) (ns : List ℕ) → someOf (isLost t) ns ≡ false → someOf (isNumber p v) ns ≡ true
-    → (permitted (t .pool) p v ≡ true) × (someOf (holdsPair p v) (t .slots .all) ≡ false)
-kept-doubt t p v [] e h = clash h refl
-kept-doubt t p v (n ∷ ns) e h =
-    let a = neither (isLost t n) (someOf (isLost t) ns) e in
+-- a pair in doubt, or out of service by a mark of its own, that is kept: it is not in the other list
+pub record PairKept (t : Table) (others : Pairs) (p v : ℕ) : Type 0 where
+  pub permits : permitted (t .pool) p v ≡ true
+  pub not-held : someOf (holdsPair p v) (t .slots .all) ≡ false
+  pub one-way : inPairs others p v ≡ false
+
+kept-number : (t : Table) (others : Pairs) (n : ℕ) → isLost t others n ≡ false → PairKept t others (n / 65536) (n % 65536)
+kept-number t others n e =
+    let a = neither (not (permitted (t .pool) (n / 65536) (n % 65536))) _ e in
+    let b = neither (someOf (holdsPair (n / 65536) (n % 65536)) (t .slots .all)) (inPairs others (n / 65536) (n % 65536)) (a .1) in
+    record { permits = not-false (permitted (t .pool) (n / 65536) (n % 65536)) (a .0); not-held = b .0; one-way = b .1 }
+
+kept-pair : (t : Table) (others : Pairs) (p v : ℕ) (ns : List ℕ) → someOf (isLost t others) ns ≡ false → someOf (isNumber p v) ns ≡ true → PairKept t others p v
+kept-pair t others p v [] e h = clash h refl
+kept-pair t others p v (n ∷ ns) e h =
+    let a = neither (isLost t others n) (someOf (isLost t others) ns) e in
     by-test (isNumber p v n)
     (λ y.
     let same = both (eqb (n / 65536) p) (eqb (n % 65536) v) y in
-    let b = neither (not (permitted (t .pool) (n / 65536) (n % 65536))) (someOf (holdsPair (n / 65536) (n % 65536)) (t .slots .all)) (a .0) in
-    rw (← eqb-true (n / 65536) p (same .0), ← eqb-true (n % 65536) v (same .1)) (not-false (permitted (t .pool) (n / 65536) (n % 65536)) (b .0), b .1))
-    (λ z. kept-doubt t p v ns (a .1) (rw z at h))
+    rw (← eqb-true (n / 65536) p (same .0), ← eqb-true (n % 65536) v (same .1)) (kept-number t others n (a .0)))
+    (λ z. kept-pair t others p v ns (a .1) (rw z at h))
 
--- a table whose pool is start's and whose doubts and calls are kept
-kept-sound : (t : Table) (rs ps : List ℕ) → HasSlots t → t .last ≤ largestReading → t .pool ≡ provision rs ps .pool → Tidy (t .doubts)
-    → someOf (isLost t) (listed (t .doubts)) ≡ false → ((i : ℕ) (c : Call) (q : State) → HasCall t i c q → Kept t i c q) → Sound t
-kept-sound t rs ps size high pool tidy none kept = record {
+-- our RESTART that is kept
+kept-global : (last : ℕ) (pool : Pool) (g : GlobalState) → waitKept last pool g ≡ true → GlobalSound last pool g
+kept-global last pool Null e = none-sent
+kept-global last pool (RestartRequest All second d) e = all-sent second d (leb-true d (last + t316) ((both (leb d (last + t316)) true e) .0))
+kept-global last pool (RestartRequest (Pair p v) second d) e =
+    let a = both (leb d (last + t316)) (permitted pool p v) e in
+    one-sent p v second d (a .1) (leb-true d (last + t316) (a .0))
+
+-- where all pairs are out of service
+all-kept : (t : Table) → allKept t ≡ true → t .out .all ≡ true → (t .doubts .count ≡ 0) × (someOf isLive (t .slots .all) ≡ false)
+all-kept t e y =
+    let a = both (eqb (t .doubts .count) 0) (not (someOf isLive (t .slots .all))) (rw y at e) in
+    (eqb-true (t .doubts .count) 0 (a .0), not-true (someOf isLive (t .slots .all)) (a .1))
+
+none-live : (t : Table) → someOf isLive (t .slots .all) ≡ false → (p v : ℕ) → Holds t p v → ⊥
+none-live t none p v h =
+    clash (some-at isLive noSlot (t .slots .all) (h .slot) (live-within t (h .slot) (h .call) (h .state) (h .live)) (rw (h .live))) none
+
+-- what is kept of a table
+pub record TableKept (t : Table) : Type 0 where
+  pub doubts-tidy : Tidy (t .doubts)
+  pub doubts : someOf (isLost t (t .out .pairs)) (listed (t .doubts)) ≡ false
+  pub marks-tidy : Tidy (t .out .pairs)
+  pub marks : someOf (isLost t (t .doubts)) (listed (t .out .pairs)) ≡ false
+  pub all : allKept t ≡ true
+  pub request : requestKept t ≡ true
+  pub calls : (i : ℕ) (c : Call) (q : State) → HasCall t i c q → Kept t i c q
+
+-- a table whose pool is start's and that is kept
+kept-sound : (t : Table) (rs ps : List ℕ) → HasSlots t → t .last ≤ largestReading → t .pool ≡ provision rs ps .pool → TableKept t → Sound t
+kept-sound t rs ps size high pool k = record {
   has-slots = size;
   last-high = high;
   numbers = numbers;
   calls-sound = λ i c q h.
-      let k = kept i c q h in
-      let n = numbers (c .vpci) (c .vci) (k .permits) in
+      let call = k .calls i c q h in
+      let n = numbers (c .vpci) (c .vci) (call .permits) in
       record {
-        pair-permitted = k .permits;
+        pair-permitted = call .permits;
         vpci-high = n .0;
         vci-low = n .1;
         vci-high = n .2;
-        not-global = k .not-global;
-        state-sound = kept-state (t .last) (c .network) q (k .state);
+        not-global = call .not-global;
+        state-sound = kept-state (t .last) (c .network) q (call .state);
       };
-  pair-once = λ i j c d q r h g p v. one-place i j (sym (kept i c q h .first-on-pair) ∙ rw (p, v) (kept j d r g .first-on-pair));
-  reference-once = λ i j c d q r h g p v. one-place i j (sym (kept i c q h .first-named) ∙ rw (p, v) (kept j d r g .first-named));
-  doubts-tidy = tidy;
-  doubt-permitted = λ p v h. (kept-doubt t p v (listed (t .doubts)) none h) .0;
-  doubt-not-held = λ p v h k. clash (held-some t p v k) ((kept-doubt t p v (listed (t .doubts)) none h) .1);
+  pair-once = λ i j c d q r h g p v. one-place i j (sym (k .calls i c q h .first-on-pair) ∙ rw (p, v) (k .calls j d r g .first-on-pair));
+  reference-once = λ i j c d q r h g p v. one-place i j (sym (k .calls i c q h .first-named) ∙ rw (p, v) (k .calls j d r g .first-named));
+  doubts-tidy = k .doubts-tidy;
+  doubt-permitted = λ p v d. doubtful p v d .permits;
+  doubt-not-held = λ p v d h. clash (held-some t p v h) (doubtful p v d .not-held);
+  marks-tidy = k .marks-tidy;
+  mark-permitted = λ p v m. marked p v m .permits;
+  out-not-held = λ p v o h.
+      either (t .out .all) (inPairs (t .out .pairs) p v) o
+      (λ y. none-live t ((all-kept t (k .all) y) .1) p v h)
+      (λ m. clash (held-some t p v h) (marked p v m .not-held));
+  out-not-doubtful = λ p v o d.
+      either (t .out .all) (inPairs (t .out .pairs) p v) o
+      (λ y. clash d (rw ((all-kept t (k .all) y) .0)))
+      (λ m. clash d (marked p v m .one-way));
+  global-sound = kept-global (t .last) (t .pool) (t .global .state) (k .request);
 }
   where
+    doubtful : (p v : ℕ) → InDoubt t p v → PairKept t (t .out .pairs) p v
+    doubtful p v d = kept-pair t (t .out .pairs) p v (listed (t .doubts)) (k .doubts) d
+
+    marked : (p v : ℕ) → inPairs (t .out .pairs) p v ≡ true → PairKept t (t .doubts) p v
+    marked p v m = kept-pair t (t .doubts) p v (listed (t .out .pairs)) (k .marks) m
+
     numbers : (p v : ℕ) → permitted (t .pool) p v ≡ true → (p ≤ 255) × (32 ≤ v) × (v ≤ 65535)
     numbers p v h =
         let k = provision-pair rs ps p v ((both (inRanges p v (provision rs ps .pool .ranges)) _ (rw pool at h)) .0) in
@@ -157,35 +220,46 @@ fours-length f (suc n) = ap suc (fours-length (drop 4 f) n)
 least-most : (a b : ℕ) → least a b ≤ a
 least-most a b = by-test (ltb a b) (λ y. rw y (omega arith)) (λ z. rw z (omega (arith, ltb-false a b z)))
 
-doubts-read : (f : List ℕ) → ascending (listed (doubtsIn f)) ≡ true → Tidy (doubtsIn f)
-doubts-read f a =
+pairs-read : (from : ℕ) (f : List ℕ) → ascending (listed (pairsIn from f)) ≡ true → Tidy (pairsIn from f)
+pairs-read from f a =
     let n = least room (twoAt f 1 / 4) in
-    let ns = foursIn (drop 3 f) n in
-    tidy-packed ns (omega (arith, fours-length (drop 3 f) n, least-most room (twoAt f 1 / 4))) (rw (listed-packed ns) at a)
+    let ns = foursIn (drop from f) n in
+    tidy-packed ns (omega (arith, fours-length (drop from f) n, least-most room (twoAt f 1 / 4))) (rw (listed-packed ns) at a)
 
 -- what octets have that are a form
 pub record Form (count : ℕ) (f : List ℕ) : Type 0 where
   pub accepted : provision (rangeNumbers f) (pairNumbers f) .accepted ≡ true
   pub reading : tableIn count f .last ≤ largestReading
-  pub doubts : doubtsKept (tableIn count f) ≡ true
-  pub all-kept : allBelow (slotKept (tableIn count f)) count ≡ true
+  pub kept : tableKept count (tableIn count f) ≡ true
   pub same : formOf (tableIn count f) ≡ f
 
 pub form-is : (count : ℕ) (f : List ℕ) → isForm count f ≡ true → Form count f
 form-is count f e =
     let a = both (provision (rangeNumbers f) (pairNumbers f) .accepted) _ e in
     let b = both (leb (tableIn count f .last) largestReading) _ (a .1) in
-    let c = both (doubtsKept (tableIn count f)) _ (b .1) in
-    let d = both (allBelow (slotKept (tableIn count f)) count) _ (c .1) in
-    record { accepted = a .0; reading = leb-true _ _ (b .0); doubts = c .0; all-kept = d .0; same = equal-same _ _ (d .1) }
+    let c = both (tableKept count (tableIn count f)) _ (b .1) in
+    record { accepted = a .0; reading = leb-true _ _ (b .0); kept = c .0; same = equal-same _ _ (c .1) }
 
 form-sound : (count : ℕ) (f : List ℕ) → count ≡ slotCount → Form count f → Sound (tableIn count f)
 form-sound count f ours form =
     let t = tableIn count f in
-    let size : length (t .slots .all) ≡ count = slots-counted 0 count (rest (rest (rest (rest f)))) in
-    let d = both (ascending (listed (t .doubts))) (not (someOf (isLost t) (listed (t .doubts)))) (form .doubts) in
-    kept-sound t (rangeNumbers f) (pairNumbers f) (size ∙ ours) (form .reading) refl (doubts-read (rest (rest (rest f))) (d .0)) (not-true _ (d .1))
-    (λ i c q h. kept-call count t i c q size (form .all-kept) h)
+    let size : length (t .slots .all) ≡ count = slots-counted 0 count (rest (rest (rest (rest (rest (rest f)))))) in
+    let a = both (doubtsKept t) _ (form .kept) in
+    let b = both (marksKept t) _ (a .1) in
+    let c = both (requestKept t) (allBelow (slotKept t) count) (b .1) in
+    let doubts = both (ascending (listed (t .doubts))) (not (someOf (isLost t (t .out .pairs)) (listed (t .doubts)))) (a .0) in
+    let out = both (pairsKept t (t .doubts) (t .out .pairs)) (allKept t) (b .0) in
+    let marks = both (ascending (listed (t .out .pairs))) (not (someOf (isLost t (t .doubts)) (listed (t .out .pairs)))) (out .0) in
+    kept-sound t (rangeNumbers f) (pairNumbers f) (size ∙ ours) (form .reading) refl
+    (record {
+      doubts-tidy = pairs-read 3 (rest (rest (rest f))) (doubts .0);
+      doubts = not-true _ (doubts .1);
+      marks-tidy = pairs-read 4 (rest (rest (rest (rest f)))) (marks .0);
+      marks = not-true _ (marks .1);
+      all = out .1;
+      request = c .0;
+      calls = λ i c′ q h. kept-call count t i c′ q size (c .1) h;
+    })
 
 -- a reload that is accepted
 pub reload-in : (count : ℕ) (f : List ℕ) → reloadIn count f .refusal ≡ 0 → (Form count f) × (reloadIn count f .table ≡ tableIn count f)

@@ -17,7 +17,6 @@ use lib.Seq.{getD-set-same}
 use borrow.Author.Tests.{eqb-true, ne-eqb, eq-eqb, not-true}
 use Rattle.channels.specs.Channels.{inRanges, permanent}
 use Rattle.channels.proofs.Cases.{by-test, clash, both}
-use Rattle.search.proofs.Free.{free-permitted}
 use Rattle.calls.specs.declared.State.{State}
 use Rattle.calls.specs.declared.Call.{Call}
 use Rattle.calls.specs.declared.Hold.{Hold}
@@ -44,6 +43,8 @@ use Rattle.verdicts.specs.Verdict.{silent}
 use Rattle.judging.specs.Judge.{statusVerdict, judge, statusReply, noCallReply, globalReply}
 use Rattle.effects.specs.declared.Change.the-variants.{Keep}
 use Rattle.effects.specs.declared.Effect.{Effect}
+use Rattle.service.specs.Service.{globalNumber}
+use Rattle.restarts.specs.declared.Target.{Target}
 use Rattle.table.specs.declared.Table.{Table}
 use Rattle.table.specs.Effects.{onHold, addressed, messageEffect}
 use Rattle.outcome.specs.Outcome.{Outcome, acceptedAs, refusedWith}
@@ -55,7 +56,7 @@ use Rattle.views.specs.Effects.{refusalOf, outcomeOf}
 use Rattle.views.proofs.Verdicts.{by-cond}
 use Rattle.views.proofs.View as view
 use Rattle.safety.specs.Slips.{NotHandedOut, ReleasedHolds, OneSide, SetupIsNew, BothOnes, Names, Untouched, DuplicateIgnored, NoStatusForStatus, PermanentStays}
-use Rattle.safety.proofs.Tables.{held-some, live-within, nothing-named, named-nothing}
+use Rattle.safety.proofs.Tables.{live-within, held-not-free, doubt-not-free, out-not-free, named-not-free, nothing-named, named-nothing}
 use Rattle.safety.proofs.FixedAnswers.{number}
 use Rattle.safety.proofs.Changes.{head-is}
 use Rattle.safety.proofs.Sound.{always-permitted}
@@ -63,10 +64,12 @@ use Rattle.safety.proofs.Sound.{always-permitted}
 -- A pair is held until its call is gone.
 
 pub not-handed-out : (t : Table) → NotHandedOut t
-not-handed-out t i c q h free =
-    clash
-    (held-some t (c .vpci) (c .vci) (record { slot = i; call = c; state = q; live = h; pair = record { vpci = refl; vci = refl } }))
-    ((free-permitted (t .slots .all) (t .doubts) (t .pool) (c .vpci) (c .vci) free) .1)
+not-handed-out t = record {
+  held = λ i c q h. held-not-free t (c .vpci) (c .vci) (record { slot = i; call = c; state = q; live = h; pair = record { vpci = refl; vci = refl } });
+  in-doubt = doubt-not-free t;
+  out-of-service = out-not-free t;
+  under-restart = named-not-free t;
+}
 
 pub released-holds : (t : Table) → ReleasedHolds t
 released-holds t label reading room slot cause c q h accepted =
@@ -131,6 +134,8 @@ reply-kind flag r (reply.ReleaseCompleteWith c) = refl
 reply-kind flag r (reply.Status s c) = refl
 reply-kind flag r reply.RestartAcknowledgeAll = refl
 reply-kind flag r (reply.RestartAcknowledge p v) = refl
+reply-kind flag r reply.RestartAll = refl
+reply-kind flag r (reply.Restart p v) = refl
 
 -- and so of all that is sent
 abbrev pub sentKind : Outgoing → ℕ
@@ -166,8 +171,8 @@ module _ (m : List ℕ) (h : Header) (status : h .kind ≡ 0x7D) where
   no-call-not-status : NotStatus (noCallReply m h)
   no-call-not-status = rw status (by-cond NotStatus (h .whole) (statusReply (callStateIn m 9)) reply.None (reply-not-status (callStateIn m 9)) none-not-status)
 
-  global-not-status : NotStatus (globalReply h)
-  global-not-status = rw status none-not-status
+  global-not-status : (state : ℕ) → NotStatus (globalReply state h)
+  global-not-status state = rw status none-not-status
 
 module _ (t : Table) (label reading room : ℕ) (m : List ℕ) (status : getD m 5 0 ≡ 0x7D) where
   abbrev event : Event
@@ -179,17 +184,20 @@ module _ (t : Table) (label reading room : ℕ) (m : List ℕ) (status : getD m 
   no-tick : {P : Type 0} → view.IsTick event → P
   no-tick = elim [ ]
 
+  no-command : {P : Type 0} (target : Target) → view.IsRestartCommand target event → P
+  no-command target = elim [ ]
+
   does-not-status : (x : Effect) → view.Does t event x → sentKind (x .outgoing) ≢ 0x7D
   does-not-status x view.nothing = λ e. omega arith
   does-not-status x (view.no-call m′ h is) = no-call-not-status m′ h (kind-is m′ h is)
-  does-not-status x (view.global m′ h is) = global-not-status m′ h (kind-is m′ h is)
+  does-not-status x (view.global m′ h is) = global-not-status m′ h (kind-is m′ h is) (globalNumber (t .global .state))
   does-not-status x (view.refuses m′ h c is a) = λ e. omega arith
   does-not-status x (view.no-slot m′ h is a f) = λ e. omega arith
   does-not-status x (view.no-free m′ h i is a f g) = λ e. omega arith
   does-not-status x (view.admits m′ h i p v is a f g) = λ e. omega arith
   does-not-status x (view.offers i p v is f g) = λ e. omega arith
   does-not-status x (view.judges m′ h i c q is f g) = judge-not-status m′ h (kind-is m′ h is) q reading
-  does-not-status x (view.fires i c q is f g) = no-tick is
+  does-not-status x (view.fires i c q is z f g) = no-tick is
   does-not-status x (view.connects i c q is g n) = λ e. omega arith
   does-not-status x (view.clears i cause c q is g host) = λ e. omega arith
   does-not-status x (view.declines m′ h n d is a) =
@@ -197,6 +205,11 @@ module _ (t : Table) (label reading room : ℕ) (m : List ℕ) (status : getD m 
       absurd (omega (arith, kind-is m′ h (is .is-message)))
   does-not-status x (view.restarts m′ h which a is (view.all k g y)) = λ e. omega arith
   does-not-status x (view.restarts m′ h which a is (view.one k p v g n f known fair)) = λ e. omega arith
+  does-not-status x (view.requests target is w n) = no-command target is
+  does-not-status x (view.acknowledges m′ h which second d is g same) = λ e. omega arith
+  does-not-status x (view.puts-back is) = λ e. omega arith
+  does-not-status x (view.sends-again which second d is g z full) = no-tick is
+  does-not-status x (view.withdraws which d is g z room) = λ e. omega arith
 
 pub no-status-for-status : (t : Table) → NoStatusForStatus t
 no-status-for-status t label reading room m status =

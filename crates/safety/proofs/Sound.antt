@@ -17,7 +17,6 @@ use Rattle.channels.specs.Channels.{permitted, inRanges}
 use Rattle.channels.proofs.Cases.{by-test, clash, both}
 use Rattle.channels.proofs.Some.{some-at}
 use Rattle.pairs.proofs.Laws.{none-in, none-tidy}
-use Rattle.search.proofs.Free.{free-permitted}
 use Rattle.provisioning.specs.Provisioning.{provision}
 use Rattle.provisioning.proofs.Accepted.{provision-pair}
 use Rattle.calls.specs.declared.State.{State}
@@ -37,28 +36,29 @@ use Rattle.reached.specs.Reached.{Beginning, start, reload, begun, Reached}
 use Rattle.views.specs.Tables.{slotAt, HasCall, Holds}
 use Rattle.views.specs.Effects.{readingOf, refusalOf, effectOf, outcomeOf}
 use Rattle.views.proofs.View.{does, happens-is}
-use Rattle.safety.specs.Sound.{CallSound, Sound}
-use Rattle.safety.proofs.Tables.{not-live, held-some, live-within}
+use Rattle.safety.specs.Sound.{CallSound, none-sent, Sound}
+use Rattle.safety.proofs.Tables.{not-live, live-within, free-permitted, held-not-free}
 use Rattle.safety.proofs.Changes.{NewCall, Comes, old, new, Change, accepted-reading, outcome-change}
-use Rattle.safety.proofs.Doubtful.{DoubtsSound, does-doubted, doubts-sound}
+use Rattle.safety.proofs.Doubtful.{Touched, does-touched, doubts-sound}
+use Rattle.safety.proofs.Marks.{marks-sound, global-sound}
 use Rattle.safety.proofs.Reloaded.{reload-sound}
 use Rattle.safety.proofs.Lists.{getD-replicate-default}
 use Rattle.safety.proofs.Cases.{beq-same, one-place}
 
 module _ (t : Table) (e : Event) (c : Call) (q : State) (n : NewCall t e c q) where
   new-permitted : permitted (t .pool) (c .vpci) (c .vci) ≡ true
-  new-permitted = (free-permitted (t .slots .all) (t .doubts) (t .pool) (c .vpci) (c .vci) (n .pair)) .0
+  new-permitted = free-permitted t (c .vpci) (c .vci) (n .pair)
 
   pub new-free : {P : Type 0} → Holds t (c .vpci) (c .vci) → P
-  new-free h = clash (held-some t (c .vpci) (c .vci) h) ((free-permitted (t .slots .all) (t .doubts) (t .pool) (c .vpci) (c .vci) (n .pair)) .1)
+  new-free h = absurd (held-not-free t (c .vpci) (c .vci) h (n .pair))
 
   pub new-unnamed : {P : Type 0} (i : ℕ) (d : Call) (r : State) → HasCall t i d r → d .network ≡ c .network → d .reference ≡ c .reference → P
   new-unnamed i d r h side value =
       let at : isCall (c .network) (c .reference) (slotAt t i) ≡ true = rw (h, side, eq-eqb _ _ value, beq-same (c .network)) in
       clash (some-at (isCall (c .network) (c .reference)) noSlot (t .slots .all) i (live-within t i d r h) at) (n .unnamed)
 
-module _ (t : Table) (e : Event) (s : Sound t) (high : readingOf e ≤ largestReading) (x : declared.Change) (change : Change t e (slotsAfter x (t .slots) .all))
-    (doubts : DoubtsSound (tableAfter t (readingOf e) x)) where
+module _ (t : Table) (e : Event) (s : Sound t) (order : t .last ≤ readingOf e) (high : readingOf e ≤ largestReading) (x : declared.Change) (change : Change t e (slotsAfter x (t .slots) .all))
+    (touched : Touched t (readingOf e) x) where
   abbrev u : Table
   u = tableAfter t (readingOf e) x
 
@@ -98,17 +98,25 @@ module _ (t : Table) (e : Event) (s : Sound t) (high : readingOf e ≤ largestRe
   reference-once i j c d q r (new n place) (new m found) p v = one-place i j (sym place ∙ found)
 
   pub change-sound : Sound u
-  change-sound = record {
-    has-slots = change .size ∙ s .has-slots;
-    last-high = high;
-    numbers = s .numbers;
-    calls-sound = λ i c q h. call-sound i c q (change .comes i c q h);
-    pair-once = λ i j c d q r h k. pair-once i j c d q r (change .comes i c q h) (change .comes j d r k);
-    reference-once = λ i j c d q r h k. reference-once i j c d q r (change .comes i c q h) (change .comes j d r k);
-    doubts-tidy = doubts .in-order;
-    doubt-permitted = doubts .permits;
-    doubt-not-held = doubts .not-held;
-  }
+  change-sound =
+      let doubts = doubts-sound t e s x change touched in
+      let out = marks-sound t e s x change touched in
+      record {
+        has-slots = change .size ∙ s .has-slots;
+        last-high = high;
+        numbers = s .numbers;
+        calls-sound = λ i c q h. call-sound i c q (change .comes i c q h);
+        pair-once = λ i j c d q r h k. pair-once i j c d q r (change .comes i c q h) (change .comes j d r k);
+        reference-once = λ i j c d q r h k. reference-once i j c d q r (change .comes i c q h) (change .comes j d r k);
+        doubts-tidy = doubts .in-order;
+        doubt-permitted = doubts .permits;
+        doubt-not-held = doubts .not-held;
+        marks-tidy = out .in-order;
+        mark-permitted = out .permits;
+        out-not-held = out .not-held;
+        out-not-doubtful = out .not-doubtful;
+        global-sound = global-sound t e s order x touched;
+      }
 
 -- One event.
 
@@ -127,9 +135,9 @@ event-keeps-sound t e s =
     (λ y.
     let z = eqb-true (refusalOf t e) 0 y in
     let x = effectOf t e .change in
-    let change = outcome-change t e z in
+    let reading = accepted-reading t e z in
     rw (left-accepted t e y)
-    (change-sound t e s ((accepted-reading t e z) .1) x change (doubts-sound t e s x change (does-doubted t e (effectOf t e) (does t e z)))))
+    (change-sound t e s (reading .0) (reading .1) x (outcome-change t e z) (does-touched t e (s .global-sound) (effectOf t e) (does t e z))))
     (λ n. rw (left-refused t e n) s)
 
 -- Start.
@@ -150,11 +158,16 @@ start-sound ranges pairs = record {
   doubts-tidy = none-tidy;
   doubt-permitted = λ p v h. clash h (none-in p v);
   doubt-not-held = λ p v h k. clash h (none-in p v);
+  marks-tidy = none-tidy;
+  mark-permitted = λ p v h. clash h (none-in p v);
+  out-not-held = λ p v h k. clash h (none-in p v);
+  out-not-doubtful = λ p v h k. clash h (none-in p v);
+  global-sound = none-sent;
 }
 
 -- All events after it.
 
-after-sound : (t : Table) (es : List Event) → Sound t → Sound (after t es)
+pub after-sound : (t : Table) (es : List Event) → Sound t → Sound (after t es)
 after-sound t [] s = s
 after-sound t (e ∷ es) s = after-sound (happens t e .answer .table) es (event-keeps-sound t e s)
 

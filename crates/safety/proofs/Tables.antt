@@ -2,14 +2,16 @@
 --   live-within             a live call is in one of the table's slots
 --   held-some, some-held    a live call holds a pair if and only if some slot does
 --   none-free, free-none    no pair is found if and only if no permitted pair is free
+--   free-permitted          the pair that is found is permitted
+--   held-not-free, doubt-not-free, out-not-free, named-not-free     and none that is held, in doubt, out of service, or named by our RESTART
 --   none-empty, empty-none  no empty slot is found if and only if none is empty
 --   empty-at                a slot that the search takes for empty is the empty one
 --   nothing-named, named-nothing    no call is found if and only if there is no such call
 -- Assumes nothing.
 use Prim.Native.Nat.{ℕ, _<_}
 use mathlib.Core.Path.{_≡_, refl, ap}
-use mathlib.Core.Logic.{inl, inr, ⊎-elim}
-use mathlib.Core.Bool.{Bool, true, false, or-true}
+use mathlib.Core.Logic.{_⊎_, _≢_, inl, inr, ⊎-elim}
+use mathlib.Core.Bool.{Bool, true, false, _||_}
 use native.Mathlib.Omega.{arith}
 use lib.Dec.{eqb}
 use lib.ListN.{length}
@@ -17,8 +19,10 @@ use borrow.Author.Tests.{eqb-true, eq-eqb}
 use Rattle.channels.specs.Some.{someOf}
 use Rattle.pairs.specs.Pairs.{inPairs}
 use Rattle.channels.specs.declared.Channel.the-variants as channel
+use Rattle.channels.specs.Channels.{permitted}
 use Rattle.channels.proofs.Cases.{by-test, clash, both}
 use Rattle.channels.proofs.Some.{some-at, some-none}
+use Rattle.service.specs.Service.{underRestart, isOut}
 use Rattle.search.proofs.Free as free
 use Rattle.calls.specs.declared.State.{State}
 use Rattle.calls.specs.declared.Call.{Call}
@@ -31,10 +35,10 @@ use Rattle.first.specs.First.{place}
 use Rattle.first.proofs.First.{unplaced, some-nothing}
 use Rattle.table.specs.declared.Table.{Table}
 use Rattle.table.specs.Effects.{freePair}
-use Rattle.views.specs.Tables.{HasSlots, slotAt, HasCall, NoneEmpty, OnPair, Holds, InDoubt, NoneFree}
+use Rattle.views.specs.Tables.{HasSlots, slotAt, HasCall, NoneEmpty, OnPair, Holds, InDoubt, IsOut, UnderRestart, NoneFree}
 use Rattle.safety.specs.NoPair.{NoSuchCall}
 use Rattle.safety.proofs.Lists.{some-found, passes-within}
-use Rattle.safety.proofs.Cases.{beq-same, either}
+use Rattle.safety.proofs.Cases.{beq-same, either, one-passes}
 
 -- an empty slot holds no call
 pub not-live : {P : Type 0} (c : Call) (q : State) → Empty ≡ Live c q → P
@@ -82,19 +86,49 @@ module _ (t : Table) where
 
   pub none-free : freePair t ≡ channel.None → NoneFree t
   none-free e p v permitted =
-      either (someOf (holdsPair p v) (t .slots .all)) (inPairs (t .doubts) p v)
-      (free.none-free (t .slots .all) (t .doubts) (t .pool) e p v permitted)
+      let doubtful = inPairs (t .doubts) p v in
+      let out = isOut (t .out) p v in
+      let named = underRestart (t .global .state) p v in
+      either (someOf (holdsPair p v) (t .slots .all)) (doubtful || (out || named))
+      (free.none-free (t .slots .all) (t .doubts) (t .out) (t .global .state) (t .pool) e p v permitted)
       (λ y. inl (some-held p v y))
-      (λ y. inr y)
+      (λ y. inr (either doubtful (out || named) y (λ a. inl a) (λ z. inr (either out named z (λ a. inl a) (λ a. inr a)))))
 
   pub free-none : NoneFree t → freePair t ≡ channel.None
   free-none h =
-      free.none-left (t .slots .all) (t .doubts) (t .pool)
+      free.none-left (t .slots .all) (t .doubts) (t .out) (t .global .state) (t .pool)
       (λ p v permitted.
       ⊎-elim
       (λ (y : Holds t p v). rw (held-some p v y))
-      (λ (y : InDoubt t p v). rw y (or-true (someOf (holdsPair p v) (t .slots .all))))
+      (λ (n : InDoubt t p v ⊎ (IsOut t p v ⊎ UnderRestart t p v)).
+      one-passes (someOf (holdsPair p v) (t .slots .all)) _
+      (⊎-elim
+      (λ (y : InDoubt t p v). rw y)
+      (λ (m : IsOut t p v ⊎ UnderRestart t p v).
+      one-passes (inPairs (t .doubts) p v) _
+      (⊎-elim (λ (y : IsOut t p v). rw y) (λ (y : UnderRestart t p v). one-passes (isOut (t .out) p v) _ y) m))
+      n))
       (h p v permitted))
+
+  -- what a new call does not get
+  module _ (p v : ℕ) where
+    is-free : freePair t ≡ channel.Pair p v → free.Free (t .slots .all) (t .doubts) (t .out) (t .global .state) (t .pool) p v
+    is-free e = free.free-permitted (t .slots .all) (t .doubts) (t .out) (t .global .state) (t .pool) p v e
+
+    pub free-permitted : freePair t ≡ channel.Pair p v → permitted (t .pool) p v ≡ true
+    free-permitted e = is-free e .permits
+
+    pub held-not-free : Holds t p v → freePair t ≢ channel.Pair p v
+    held-not-free h e = clash (held-some p v h) (is-free e .not-held)
+
+    pub doubt-not-free : InDoubt t p v → freePair t ≢ channel.Pair p v
+    doubt-not-free d e = clash d (is-free e .not-doubtful)
+
+    pub out-not-free : IsOut t p v → freePair t ≢ channel.Pair p v
+    out-not-free o e = clash o (is-free e .not-out)
+
+    pub named-not-free : UnderRestart t p v → freePair t ≢ channel.Pair p v
+    named-not-free n e = clash n (is-free e .not-named)
 
 module _ (t : Table) (whole : HasSlots t) where
   pub none-empty : place isEmpty (t .slots .all) ≡ Nothing → NoneEmpty t

@@ -10,12 +10,14 @@
 use Prim.Native.Nat.{ℕ, suc, _/_, _%_, _≤_, _<_}
 use mathlib.Core.Path.{_≡_}
 use mathlib.Core.Logic.{_⊎_, _≢_}
-use mathlib.Core.Bool.{false}
+use mathlib.Core.Bool.{Bool, false}
 use mathlib.Core.List.{List, []}
 use lib.ListN.{length, replicate}
 use Rattle.octets.specs.Octets.{front}
 use Rattle.traffic.specs.Traffic.{member}
+use Rattle.channels.specs.declared.Named.{Named}
 use Rattle.channels.specs.declared.Range.{Range}
+use Rattle.channels.specs.Channels.{permitted}
 use Rattle.provisioning.specs.Provisioning.{rangeAt, singleAt, poolOf}
 use Rattle.calls.specs.declared.Clearing.{Clearing}
 use Rattle.calls.specs.declared.State.{State}
@@ -26,11 +28,14 @@ use Rattle.calls.specs.Timers.{largestReading}
 use Rattle.slots.specs.Slots.{slotCount}
 use Rattle.replies.specs.Reply.{replyRoom, bodyRoom}
 use Rattle.setup.specs.Offer.{offerFits}
+use Rattle.service.specs.declared.GlobalState.the-variants.{RestartRequest}
+use Rattle.restarts.specs.declared.Target.{Target}
+use Rattle.restarts.specs.declared.Target.the-variants.{One}
 use Rattle.table.specs.declared.Table.{Table}
 use Rattle.refusals.specs.Refusals.{hostCauses}
 use Rattle.outcome.specs.Outcome.{Outcome}
 use Rattle.control.specs.Events.{startOf}
-use Rattle.control.specs.Happens.{Event, message, connect, clear, offer, happens}
+use Rattle.control.specs.Happens.{Event, message, connect, clear, offer, restart, happens}
 use Rattle.views.specs.Tables.{slotAt, HasCall, NoneEmpty, NoneFree}
 use Rattle.views.specs.Effects.{labelOf, readingOf, roomOf}
 
@@ -65,6 +70,12 @@ pub data Applies (t : Table) : Event → ℕ → Type 0 where
   no-empty-slot : (label reading room : ℕ) (body : List ℕ) → NoneEmpty t → Applies t (offer label reading room body) 11
   -- "12 offer, no permitted pair free"
   no-free-pair : (label reading room : ℕ) (body : List ℕ) → NoneFree t → Applies t (offer label reading room body) 12
+  -- document 02, R-4: "refusal 13, after 12, is for a second command or a pair not permitted"; VPCI and VCI have 16 bits
+  second-command : (label reading room : ℕ) (target : Target) (which : Named) (second : Bool) (deadline : ℕ)
+      → t .global .state ≡ RestartRequest which second deadline → Applies t (restart label reading room target) 13
+  not-permitted : (label reading room p v : ℕ) → permitted (t .pool) p v ≡ false → Applies t (restart label reading room (One p v)) 13
+  wide-vpci : (label reading room p v : ℕ) → 65535 < p → Applies t (restart label reading room (One p v)) 13
+  wide-vci : (label reading room p v : ℕ) → 65535 < v → Applies t (restart label reading room (One p v)) 13
 
 -- "A refusal answers reply length 0, notice 0 and no flags; table, last reading and reply room stay unchanged." "(refused: no)"
 pub record Unchanged (t : Table) (o : Outcome) : Type 0 where

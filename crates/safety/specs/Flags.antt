@@ -19,7 +19,7 @@ use Rattle.calls.specs.Calls.{noSlot}
 use Rattle.slots.specs.declared.Flags.{Flags}
 use Rattle.slots.specs.Slots.{slotCount}
 use Rattle.table.specs.declared.Table.{Table}
-use Rattle.control.specs.Happens.{Event, message, tick, connect, clear, offer, happens}
+use Rattle.control.specs.Happens.{Event, message, tick, connect, clear, offer, restart, put-back, happens}
 use Rattle.views.specs.Tables.{slotAt, HasCall}
 
 abbrev pub flagOf : Flags → ℕ → Bool
@@ -66,13 +66,15 @@ pub record NamesExactly (t u : Table) (notice : ℕ) (f : Flags) : Type 0 where
   pub with-3-all : notice ≡ 3 → (i : ℕ) → CallGone t u i → flagOf f i ≡ true
   pub with-3-some : notice ≡ 3 → (i : ℕ) × (flagOf f i ≡ true)
 
--- "Where no notice is named it is 0.": for connect and clear none is named
+-- "Where no notice is named it is 0.": for connect and clear none is named, nor for the two commands of document 02, R-4
 abbrev pub NoNotice : Event → Type 0
 NoNotice (message label reading room octets) = ⊥
 NoNotice (tick label reading room) = ⊥
 NoNotice (connect label reading room slot) = Unit {0}
 NoNotice (clear label reading room slot cause) = Unit {0}
 NoNotice (offer label reading room body) = ⊥
+NoNotice (restart label reading room target) = Unit {0}
+NoNotice (put-back label reading room) = Unit {0}
 
 -- "1 call asked, 2 call answered, 3 calls gone": by connect a call goes to N10 too, but there the host answers it and is told nothing
 pub record TellsAll (t u : Table) (e : Event) (notice : ℕ) : Type 0 where

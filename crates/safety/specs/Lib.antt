@@ -4,3 +4,4 @@ pub mod Sound
 pub mod NoPair
 pub mod Slips
 pub mod Flags
+pub mod Restarts

@@ -30,7 +30,7 @@ use Rattle.outcome.specs.Outcome.{Outcome}
 use Rattle.commands.specs.Commands.{networkCall}
 use Rattle.control.specs.Events.{messageOf, clearOf}
 use Rattle.control.specs.Happens.{Event, happens}
-use Rattle.views.specs.Tables.{slotAt, HasCall}
+use Rattle.views.specs.Tables.{slotAt, HasCall, InDoubt, IsOut, UnderRestart}
 use Rattle.safety.specs.NoPair.{NoSuchCall}
 use Rattle.safety.specs.SmallTable.{begun, setup, heard, offering, left}
 
@@ -55,9 +55,13 @@ HeldUntilGone t e = (i : ℕ) (c : Call) (q : State) → HasCall t i c q → Sti
 abbrev pub ReleaseFreesNone : Table → Event → Type 0
 ReleaseFreesNone t e = getD (happens t e .reply) 5 0 ≡ 0x4D → (i : ℕ) (c : Call) (q : State) → HasCall t i c q → StillThere (happens t e .answer .table) i c
 
--- the pair of a live call, in N12 as in every other state, is not the one that a new call gets
-abbrev pub NotHandedOut : Table → Type 0
-NotHandedOut t = (i : ℕ) (c : Call) (q : State) → HasCall t i c q → freePair t ≢ Pair (c .vpci) (c .vci)
+-- the pair of a live call, in N12 as in every other state, is not the one that a new call gets; nor is a pair in doubt, or, by document 02, R-4,
+-- one out of service or named by our RESTART: "Named pairs while T316 runs, and out-of-service pairs, are not free."
+pub record NotHandedOut (t : Table) : Type 0 where
+  pub held : (i : ℕ) (c : Call) (q : State) → HasCall t i c q → freePair t ≢ Pair (c .vpci) (c .vci)
+  pub in-doubt : (p v : ℕ) → InDoubt t p v → freePair t ≢ Pair p v
+  pub out-of-service : (p v : ℕ) → IsOut t p v → freePair t ≢ Pair p v
+  pub under-restart : (p v : ℕ) → UnderRestart t p v → freePair t ≢ Pair p v
 
 -- after an accepted clear the call is in N12 in its slot, with its pair
 abbrev pub ReleasedHolds : Table → Type 0

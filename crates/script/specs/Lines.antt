@@ -1,7 +1,7 @@
 -- A line read into one event.
 --   clockAt                            label, reading and room behind a place
 --   lastRead, lastStored               the octets that end a line
---   messageLine .. offerLine           what follows the clock, for each event
+--   messageLine .. putBackLine         what follows the clock, for each event
 --   eventLine, eventStored             the same, by the event's word
 --   saveLine, reloadLine               what follows `save` and `reload`
 --   lineOf, lineStored                 what a line says, and the octets that are stored of it
@@ -19,14 +19,16 @@ use Rattle.script.specs.declared.words.Word.{Word}
 use Rattle.script.specs.declared.words.Word.the-variants as word
 use Rattle.script.specs.declared.words.Kind.{Kind}
 use Rattle.script.specs.declared.words.Kind.the-variants as kind
+use Rattle.script.specs.declared.words.Which.{Which}
+use Rattle.script.specs.declared.words.Which.the-variants as which
 use Rattle.script.specs.declared.Clock.{Clock}
 use Rattle.script.specs.declared.Timed.{Timed}
 use Rattle.script.specs.declared.Timed.the-variants as timed
 use Rattle.script.specs.declared.Request.{Request}
-use Rattle.script.specs.declared.Request.the-variants.{Tick, Message, Connect, Clear, Offer}
+use Rattle.script.specs.declared.Request.the-variants.{Tick, Message, Connect, Clear, Offer, RestartAll, RestartOne, PutBack}
 use Rattle.script.specs.declared.Line.{Line}
 use Rattle.script.specs.declared.Line.the-variants as line
-use Rattle.script.specs.Words.{endAt, wordAt, wordOf, fieldAt, onField}
+use Rattle.script.specs.Words.{endAt, wordAt, wordOf, whichOf, fieldAt, onField}
 use Rattle.script.specs.Hex.{octetsRead, octetsStored}
 
 -- "LABEL READING ROOM"
@@ -72,12 +74,36 @@ abbrev pub offerLine : Clock → Octets → Line
 offerLine c octets.Bad = line.Bad
 offerLine c (octets.Are n) = line.Event c (Offer n)
 
+-- "restart LABEL READING ROOM all"
+abbrev pub restartAllLine : List ℕ → Clock → ℕ → Line
+restartAllLine l c at = ended l at (line.Event c RestartAll)
+
+-- "restart LABEL READING ROOM one VPCI VCI"
+abbrev pub restartOneLine : List ℕ → Clock → ℕ → Line
+restartOneLine l c at =
+    onField (fieldAt l at) line.Bad (λ vpci second.
+    onField (fieldAt l second) line.Bad (λ vci end. ended l end (line.Event c (RestartOne vpci vci))))
+
+abbrev pub whichLine : List ℕ → Clock → ℕ → Which → Line
+whichLine l c at which.Unknown = line.Bad
+whichLine l c at which.All = restartAllLine l c at
+whichLine l c at which.One = restartOneLine l c at
+
+abbrev pub restartLine : List ℕ → Clock → ℕ → Line
+restartLine l c at = cond (ltb at (length l)) (whichLine l c (endAt l (at + 1)) (whichOf (wordAt l (at + 1)))) line.Bad
+
+-- "putback LABEL READING ROOM"
+abbrev pub putBackLine : List ℕ → Clock → ℕ → Line
+putBackLine l c at = ended l at (line.Event c PutBack)
+
 abbrev pub eventLine : ℕ → List ℕ → Kind → Clock → ℕ → Line
 eventLine room l kind.Message c at = messageLine c (lastRead room l at)
 eventLine room l kind.Tick c at = tickLine l c at
 eventLine room l kind.Connect c at = connectLine l c at
 eventLine room l kind.Clear c at = clearLine l c at
 eventLine room l kind.Offer c at = offerLine c (lastRead room l at)
+eventLine room l kind.Restart c at = restartLine l c at
+eventLine room l kind.PutBack c at = putBackLine l c at
 
 abbrev pub eventStored : ℕ → List ℕ → Kind → ℕ → List ℕ
 eventStored room l kind.Message at = lastStored room l at
@@ -85,6 +111,8 @@ eventStored room l kind.Tick at = []
 eventStored room l kind.Connect at = []
 eventStored room l kind.Clear at = []
 eventStored room l kind.Offer at = lastStored room l at
+eventStored room l kind.Restart at = []
+eventStored room l kind.PutBack at = []
 
 -- a clock, and then what the event's word asks for
 abbrev pub timedLine : ℕ → List ℕ → Kind → Timed → Line
@@ -133,6 +161,9 @@ Asks (Message n) room = n ≤ room
 Asks (Connect slot) room = Unit {0}
 Asks (Clear slot cause) room = Unit {0}
 Asks (Offer n) room = n ≤ room
+Asks RestartAll room = Unit {0}
+Asks (RestartOne vpci vci) room = Unit {0}
+Asks PutBack room = Unit {0}
 
 abbrev pub Within : Line → ℕ → Type 0
 Within line.Bad room = Unit {0}

@@ -1,7 +1,8 @@
 -- The words of a line, separated by one blank.
 --   countTo, placeOf            the first place of an octet from a place on
 --   endAt, wordAt               the word from a place up to the next blank or the line's end
---   wordOf                      the word that a line begins with
+--   commandOf, wordOf           the word that a line begins with
+--   whichOf                     what `restart` names
 --   fieldAt                     the number behind a blank
 -- Assumes nothing.
 use Prim.Native.Nat.{ℕ, suc, _+_}
@@ -16,7 +17,9 @@ use Rattle.script.specs.declared.words.Field.{Field}
 use Rattle.script.specs.declared.words.Field.the-variants as field
 use Rattle.script.specs.declared.words.Word.{Word}
 use Rattle.script.specs.declared.words.Word.the-variants.{Unknown, Start, Event, Save, Reload}
-use Rattle.script.specs.declared.words.Kind.the-variants.{Message, Tick, Connect, Clear, Offer}
+use Rattle.script.specs.declared.words.Kind.the-variants.{Message, Tick, Connect, Clear, Offer, Restart, PutBack}
+use Rattle.script.specs.declared.words.Which.{Which}
+use Rattle.script.specs.declared.words.Which.the-variants as which
 use Rattle.script.specs.Decimal.{numberOf}
 
 -- how many octets stand before the first such octet
@@ -35,7 +38,13 @@ endAt line at = placeOf 32 line at
 abbrev pub wordAt : List ℕ → ℕ → List ℕ
 wordAt line at = part line at (endAt line at)
 
--- `message`, `tick`, `connect`, `clear`, `offer`, `start`, `save` and `reload`, in ASCII
+-- `restart` and `putback`, in ASCII
+abbrev pub commandOf : List ℕ → Word
+commandOf w =
+    cond (equal w (114 ∷ 101 ∷ 115 ∷ 116 ∷ 97 ∷ 114 ∷ 116 ∷ [])) (Event Restart)
+    (cond (equal w (112 ∷ 117 ∷ 116 ∷ 98 ∷ 97 ∷ 99 ∷ 107 ∷ [])) (Event PutBack) Unknown)
+
+-- `message`, `tick`, `connect`, `clear`, `offer`, `start`, `save` and `reload`, in ASCII, or a command
 abbrev pub wordOf : List ℕ → Word
 wordOf w =
     cond (equal w (109 ∷ 101 ∷ 115 ∷ 115 ∷ 97 ∷ 103 ∷ 101 ∷ [])) (Event Message)
@@ -45,7 +54,11 @@ wordOf w =
     (cond (equal w (111 ∷ 102 ∷ 102 ∷ 101 ∷ 114 ∷ [])) (Event Offer)
     (cond (equal w (115 ∷ 116 ∷ 97 ∷ 114 ∷ 116 ∷ [])) Start
     (cond (equal w (115 ∷ 97 ∷ 118 ∷ 101 ∷ [])) Save
-    (cond (equal w (114 ∷ 101 ∷ 108 ∷ 111 ∷ 97 ∷ 100 ∷ [])) Reload Unknown)))))))
+    (cond (equal w (114 ∷ 101 ∷ 108 ∷ 111 ∷ 97 ∷ 100 ∷ [])) Reload (commandOf w))))))))
+
+-- `all` and `one`, in ASCII
+abbrev pub whichOf : List ℕ → Which
+whichOf w = cond (equal w (97 ∷ 108 ∷ 108 ∷ [])) which.All (cond (equal w (111 ∷ 110 ∷ 101 ∷ [])) which.One which.Unknown)
 
 -- what is made of a field, by its two cases
 abbrev pub onField : {A : Type 0} → Field → A → (ℕ → ℕ → A) → A

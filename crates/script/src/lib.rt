@@ -21,6 +21,7 @@ pub use start::Lists;
 pub use start::read_lists;
 use words::Field;
 use words::Kind;
+use words::Which;
 use words::Word;
 pub use words::place_of;
 ghost use mathlib.Core.Path.{_≡_};
@@ -28,7 +29,7 @@ ghost use Prim.Native.Nat.{ℕ};
 ghost use lib.ListN.{length};
 ghost use Rattle.octets.specs.Octets.{front};
 ghost use Rattle.script.specs.Hex.{Fits};
-ghost use Rattle.script.specs.Lines.{clockAt, lastRead, lastStored, messageLine, tickLine, connectLine, clearLine, offerLine, saveLine, reloadLine, eventLine, eventStored, timedLine, timedStored, lineOf, lineStored, Within};
+ghost use Rattle.script.specs.Lines.{clockAt, lastRead, lastStored, messageLine, tickLine, connectLine, clearLine, offerLine, restartAllLine, restartOneLine, restartLine, putBackLine, saveLine, reloadLine, eventLine, eventStored, timedLine, timedStored, lineOf, lineStored, Within};
 
 // What each event on a table carries. `room`: how many octets of reply room are lent.
 pub struct Clock {
@@ -44,6 +45,10 @@ pub enum Request {
     Connect(u64),
     Clear(u64, u64),
     Offer(usize),
+    RestartAll,
+    // VPCI and VCI.
+    RestartOne(u64, u64),
+    PutBack,
 }
 
 // What a line asks. Save says how many octets of room are lent, reload how many came.
@@ -159,6 +164,60 @@ fn clear(line: &[u8], clock: Clock, at: usize) -> Line
     }
 }
 
+fn restart_all(line: &[u8], clock: Clock, at: usize) -> Line
+    ensures { λ r. ⌜ r ≡ restartAllLine (now (line .entry)) clock at ⌝ }
+    ensures within { λ r. ⌜ ((room : ℕ) → Within r room) ⌝ }
+{
+    if at < line.len() {
+        return Line::Bad;
+    }
+    Line::Event(clock, Request::RestartAll)
+}
+
+fn restart_one(line: &[u8], clock: Clock, at: usize) -> Line
+    ensures { λ r. ⌜ r ≡ restartOneLine (now (line .entry)) clock at ⌝ }
+    ensures within { λ r. ⌜ ((room : ℕ) → Within r room) ⌝ }
+{
+    match words::read_field(line, at) {
+        Field::Bad => Line::Bad,
+        Field::Is(vpci, second) => match words::read_field(line, second) {
+            Field::Bad => Line::Bad,
+            Field::Is(vci, end) => {
+                if end < line.len() {
+                    return Line::Bad;
+                }
+                Line::Event(clock, Request::RestartOne(vpci, vci))
+            }
+        },
+    }
+}
+
+fn restart(line: &[u8], clock: Clock, at: usize) -> Line
+    ensures { λ r. ⌜ r ≡ restartLine (now (line .entry)) clock at ⌝ }
+    ensures within { λ r. ⌜ ((room : ℕ) → Within r room) ⌝ }
+{
+    if line.len() <= at {
+        return Line::Bad;
+    }
+    let from = at + 1;
+    let to = words::place_of(b' ', line, from);
+    match words::read_which(&line[from..to]) {
+        Which::Unknown => Line::Bad,
+        Which::All => restart_all(line, clock, to),
+        Which::One => restart_one(line, clock, to),
+    }
+}
+
+fn put_back(line: &[u8], clock: Clock, at: usize) -> Line
+    ensures { λ r. ⌜ r ≡ putBackLine (now (line .entry)) clock at ⌝ }
+    ensures within { λ r. ⌜ ((room : ℕ) → Within r room) ⌝ }
+{
+    if at < line.len() {
+        return Line::Bad;
+    }
+    Line::Event(clock, Request::PutBack)
+}
+
 fn save(line: &[u8], at: usize) -> Line
     ensures { λ r. ⌜ r ≡ saveLine (now (line .entry)) at ⌝ }
     ensures within { λ r. ⌜ ((room : ℕ) → Within r room) ⌝ }
@@ -196,6 +255,8 @@ fn read_event(line: &[u8], kind: Kind, clock: Clock, at: usize, room: &mut [u8])
         Kind::Connect => connect(line, clock, at),
         Kind::Clear => clear(line, clock, at),
         Kind::Offer => offer(clock, last_octets(line, at, room)),
+        Kind::Restart => restart(line, clock, at),
+        Kind::PutBack => put_back(line, clock, at),
     }
 }
 

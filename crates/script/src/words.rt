@@ -2,7 +2,7 @@
 ghost use mathlib.Core.Path.{_≡_};
 ghost use Prim.Native.Nat.{_≤_};
 ghost use lib.ListN.{length};
-ghost use Rattle.script.specs.Words.{placeOf, wordOf, fieldAt};
+ghost use Rattle.script.specs.Words.{placeOf, commandOf, wordOf, whichOf, fieldAt};
 use crate::decimal;
 use crate::decimal::Number;
 
@@ -22,6 +22,15 @@ pub enum Kind {
     Connect,
     Clear,
     Offer,
+    Restart,
+    PutBack,
+}
+
+// What `restart` names.
+pub enum Which {
+    Unknown,
+    All,
+    One,
 }
 
 // A number and the place behind it, or none.
@@ -87,5 +96,30 @@ pub fn read_word(w: &[u8]) -> Word
     if octets::same(w, b"reload") {
         return Word::Reload;
     }
+    read_command(w)
+}
+
+// The host's commands for channels.
+fn read_command(w: &[u8]) -> Word
+    ensures { λ r. ⌜ r ≡ commandOf (now (w .entry)) ⌝ }
+{
+    if octets::same(w, b"restart") {
+        return Word::Event(Kind::Restart);
+    }
+    if octets::same(w, b"putback") {
+        return Word::Event(Kind::PutBack);
+    }
     Word::Unknown
+}
+
+pub fn read_which(w: &[u8]) -> Which
+    ensures { λ r. ⌜ r ≡ whichOf (now (w .entry)) ⌝ }
+{
+    if octets::same(w, b"all") {
+        return Which::All;
+    }
+    if octets::same(w, b"one") {
+        return Which::One;
+    }
+    Which::Unknown
 }

@@ -1,5 +1,7 @@
 -- Among more VCIs than there are pairs, one is free.
---   crowd         where fewer than n pairs are held, in doubt or permanent, not each of n VCIs is taken
+--   crowd         where fewer than n pairs are taken by themselves, not each of n VCIs is
+--   Sparse        a test that no range passes at all its marks
+--   sparse        the pairs that can be there are fewer than the marks of a range
 -- Over lists of any length. Assumes nothing.
 use Prim.Native.Nat.{ℕ, zero, suc, _+_, _/_, _%_, _≤_, _<_, zero-le}
 use mathlib.Core.Path.{_≡_, refl}
@@ -10,18 +12,24 @@ use lib.Dec.{eqb}
 use lib.ListN.{length}
 use borrow.Author.Tests.{eqb-true, ne-eqb}
 use Rattle.channels.specs.Some.{someOf}
-use Rattle.channels.specs.Channels.{isPair, isEntry, among}
+use Rattle.channels.specs.Channels.{permanentCount, isPair, isEntry, among}
 use Rattle.channels.specs.declared.Channel.{Channel}
 use Rattle.channels.specs.declared.Channel.the-variants.{None, Pair}
 use Rattle.channels.specs.declared.Entry.{Entry}
 use Rattle.channels.proofs.Cases.{by-test}
-use Rattle.pairs.specs.Pairs.{isNumber, listed, inPairs}
+use Rattle.pairs.specs.Pairs.{room, isNumber, listed, inPairs}
 use Rattle.pairs.specs.declared.Pairs.{Pairs}
+use Rattle.pairs.proofs.Places.{span-size}
 use Rattle.calls.specs.Calls.{pairHeld, holdsPair}
 use Rattle.calls.specs.declared.Hold.{Hold}
 use Rattle.calls.specs.declared.Hold.the-variants.{Empty, Live}
 use Rattle.calls.specs.declared.Slot.{Slot}
-use Rattle.search.specs.Search.{taken}
+use Rattle.service.specs.Service.{onePair}
+use Rattle.service.specs.declared.GlobalState.{GlobalState}
+use Rattle.service.specs.declared.OutOfService.{OutOfService}
+use Rattle.slots.specs.Slots.{slotCount}
+use Rattle.search.specs.Search.{takenSingly}
+use Rattle.search.specs.Marks.{near}
 
 abbrev one : Bool → ℕ
 one true = 1
@@ -82,6 +90,10 @@ hits-some t n v each (x ∷ xs) =
     let sum = hits-either (λ w. t w x) (λ w. someOf (t w) xs) n v in
     omega arith
 
+-- not each of a run of VCIs with marks passes
+abbrev pub Sparse : (ℕ → ℕ → Bool) → Type 0
+Sparse t = (p v : ℕ) → ((w : ℕ) → v ≤ w → w < v + near → t p w ≡ true) → ⊥
+
 module _ (p n v : ℕ) where
   hits-channel : (c : Channel) → hits (λ w. isPair p w c) n v ≤ 1
   hits-channel None = hits-no n v
@@ -91,13 +103,31 @@ module _ (p n v : ℕ) where
   hits-hold Empty = hits-no n v
   hits-hold (Live c q) = hits-same (eqb (c .vpci) p) (c .vci) n v
 
-  pub crowd : (ss : List Slot) (ds : Pairs) (es : List Entry) → length ss + (length (listed ds) + length es) < n
-      → ((w : ℕ) → v ≤ w → w < v + n → taken ss ds es p w ≡ true) → ⊥
-  crowd ss ds es few all =
+  pub crowd : (ss : List Slot) (ds : Pairs) (out : OutOfService) (g : GlobalState) (es : List Entry)
+      → length ss + (length (listed ds) + (length (listed (out .pairs)) + (1 + length es))) < n
+      → ((w : ℕ) → v ≤ w → w < v + n → takenSingly ss ds out g es p w ≡ true) → ⊥
+  crowd ss ds out g es few all =
+      let number : (m : ℕ) → hits (λ w. isNumber p w m) n v ≤ 1 = λ m. hits-same (eqb (m / 65536) p) (m % 65536) n v in
       let held = hits-some (λ w. holdsPair p w) n v (λ s. hits-hold (s .hold)) ss in
-      let doubts = hits-some (λ w. isNumber p w) n v (λ m. hits-same (eqb (m / 65536) p) (m % 65536) n v) (listed ds) in
+      let doubts = hits-some (λ w. isNumber p w) n v number (listed ds) in
+      let marks = hits-some (λ w. isNumber p w) n v number (listed (out .pairs)) in
+      let request = hits-channel (onePair g) in
       let permanents = hits-some (λ w. isEntry p w) n v (λ e. hits-channel (e .channel)) es in
-      let two = hits-either (λ w. inPairs ds p w) (λ w. among p w es) n v in
-      let three = hits-either (λ w. someOf (holdsPair p w) ss) (λ w. inPairs ds p w || among p w es) n v in
-      let full = hits-all (taken ss ds es p) n v all in
+      let two = hits-either (λ w. isPair p w (onePair g)) (λ w. among p w es) n v in
+      let three = hits-either (λ w. inPairs (out .pairs) p w) (λ w. isPair p w (onePair g) || among p w es) n v in
+      let four = hits-either (λ w. inPairs ds p w) (λ w. inPairs (out .pairs) p w || (isPair p w (onePair g) || among p w es)) n v in
+      let five = hits-either (λ w. someOf (holdsPair p w) ss) (λ w. inPairs ds p w || (inPairs (out .pairs) p w || (isPair p w (onePair g) || among p w es))) n v in
+      let full = hits-all (takenSingly ss ds out g es p) n v all in
       omega arith
+
+-- the arrays are as long as they are, so that there are fewer pairs than a range has marks
+pub sparse : (ss : List Slot) (ds : Pairs) (out : OutOfService) (g : GlobalState) (es : List Entry) → length ss ≡ slotCount → length (ds .numbers) ≡ room
+    → length (out .pairs .numbers) ≡ room → length es ≡ permanentCount → Sparse (takenSingly ss ds out g es)
+sparse ss ds out g es s d o e p v =
+    let first = span-size ds d in
+    let second = span-size (out .pairs) o in
+    let long = first .long in
+    let most = first .most in
+    let wide = second .long in
+    let high = second .most in
+    crowd p near v ss ds out g es (omega arith)

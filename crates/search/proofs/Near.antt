@@ -4,25 +4,20 @@
 --   near-offset      and has a mark
 --   near-taken       a mark is set exactly if the pair of its VCI is taken
 --   near-passed      a range whose marks are all set has no free pair
--- Over lists of any length. Assumes nothing.
+-- Over lists of any length, and any test. Assumes nothing.
 use Prim.Native.Nat.{ℕ, _+_, _-_, _*_, _≤_, _<_}
 use mathlib.Core.Path.{_≡_, _∙_}
 use mathlib.Core.Bool.{Bool, true, false}
 use mathlib.Core.List.{List}
 use native.Mathlib.Omega.{arith}
 use lib.Dec.{ltb}
-use lib.ListN.{length, getD, replicate, getD-replicate}
+use lib.ListN.{getD, replicate, getD-replicate}
 use borrow.Author.Tests.{ltb-true, ltb-false}
 use Rattle.channels.specs.Channels.{rangeCount}
-use Rattle.channels.specs.declared.Entry.{Entry}
 use Rattle.channels.specs.declared.Range.{Range}
 use Rattle.channels.proofs.Cases.{by-test}
-use Rattle.pairs.specs.Pairs.{listed}
-use Rattle.pairs.specs.declared.Pairs.{Pairs}
-use Rattle.calls.specs.declared.Slot.{Slot}
-use Rattle.search.specs.Search.{taken}
 use Rattle.search.specs.Marks.{near, allMarks, rangeAt, Added, nearLast}
-use Rattle.search.proofs.Crowd.{crowd}
+use Rattle.search.proofs.Crowd.{Sparse}
 
 module _ (r : Range) where
   pub near-most : (nearLast r < r .first + near) × (nearLast r ≤ r .last)
@@ -46,13 +41,12 @@ module _ (t : ℕ → ℕ → Bool) (rs : List Range) (n k : ℕ) (on : List Boo
       let place : rangeAt rs k .first + o ≡ v = omega arith in
       a .mark k o below within (omega arith) ∙ rw (getD-replicate allMarks (k * near + o) false false (omega arith), place)
 
-module _ (ss : List Slot) (ds : Pairs) (es : List Entry) (r : Range) where
-  pub near-passed : {v last : ℕ} → length ss + (length (listed ds) + length es) < near → last ≡ nearLast r → last < v
-      → ((w : ℕ) → r .first ≤ w → w < v → taken ss ds es (r .vpci) w ≡ true)
-      → (w : ℕ) → r .first ≤ w → w < r .first + ((r .last + 1) - r .first) → taken ss ds es (r .vpci) w ≡ true
-  near-passed few at past all w low high =
+module _ (t : ℕ → ℕ → Bool) (few : Sparse t) (r : Range) where
+  pub near-passed : {v last : ℕ} → last ≡ nearLast r → last < v → ((w : ℕ) → r .first ≤ w → w < v → t (r .vpci) w ≡ true)
+      → (w : ℕ) → r .first ≤ w → w < r .first + ((r .last + 1) - r .first) → t (r .vpci) w ≡ true
+  near-passed at past all w low high =
       by-test (ltb (r .first + (near - 1)) (r .last))
       (λ e.
       let end : nearLast r ≡ r .first + (near - 1) = rw e in
-      absurd (crowd (r .vpci) near (r .first) ss ds es few (λ u from to. all u from (omega arith))))
+      absurd (few (r .vpci) (r .first) (λ u from to. all u from (omega arith))))
       (λ e. let end : nearLast r ≡ r .last = rw e in all w low (omega arith))

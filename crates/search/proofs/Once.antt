@@ -3,17 +3,19 @@
 -- Assumes nothing.
 use Prim.Native.Nat.{ℕ, _+_, _-_, _*_, _≤_, zero-le}
 use mathlib.Core.Path.{_≡_, ap, _∙_}
-use mathlib.Core.Bool.{cond}
+use mathlib.Core.Bool.{Bool, true, false, cond, _||_, or-true}
 use native.Mathlib.Omega.{arith}
 use native.Mathlib.Nat.{add-mul, le-refl}
 use lib.Dec.{eqb}
 use borrow.Author.Tests.{eqb-false}
 use Rattle.channels.proofs.Cases.{by-test}
+use Rattle.service.specs.Service.{isAllTaken}
 use Rattle.search.specs.Search.{spanning, pairsThere, AtMostOnce}
 
--- none where there is no range, and n where there is one
-none-most : (k n : ℕ) → (cond (eqb k 0) 0 n ≤ n) × (cond (eqb k 0) 0 n ≤ k * n)
-none-most k n =
+-- none where there is no range, or all are taken at once, and n elsewhere
+none-most : (k n : ℕ) (all : Bool) → (cond (eqb k 0 || all) 0 n ≤ n) × (cond (eqb k 0 || all) 0 n ≤ k * n)
+none-most k n true = rw (or-true (eqb k 0)) (zero-le, zero-le)
+none-most k n false =
     by-test (eqb k 0)
     (λ e. rw e (zero-le, zero-le))
     (λ e.
@@ -23,4 +25,4 @@ none-most k n =
     rw e (le-refl n, omega arith))
 
 pub once : AtMostOnce
-once ss ds pool = none-most (spanning (pool .ranges)) (pairsThere ss ds (pool .permanents))
+once ss ds out g pool = none-most (spanning (pool .ranges)) (pairsThere ss ds out g (pool .permanents)) (isAllTaken out g)

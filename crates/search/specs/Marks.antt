@@ -20,7 +20,7 @@ use Rattle.search.specs.Search.{spans}
 
 -- one more than there can be pairs
 abbrev pub near : ℕ
-near = slotCount + room + permanentCount + 1
+near = slotCount + room + room + permanentCount + 2
 
 abbrev pub allMarks : ℕ
 allMarks = rangeCount * near

@@ -3,19 +3,22 @@
 //   ranges_used            how many ranges there are up to the last that has a VCI
 //   mark_in                sets the mark of a pair in one range
 //   mark_pair              a pair that was read: the count is stepped, and its marks are set; mark_number: by its number
-//   mark_slots, mark_permanents, mark_doubts     hand each pair that is there to `mark_pair`; mark_pairs: all three
+//   mark_slots, mark_permanents, mark_listed, mark_request     hand each pair that is there to `mark_pair`; mark_pairs: all
 //   near_last              the last VCI of a range that has a mark
 // One mark stands for one of the NEAR first VCIs of a range: if its pair is taken. Those of range k begin at k times NEAR.
 // `find_free` has no `requires`; the others ask for room for all marks, and for a count that is not near its end.
 // Assumes nothing.
 use calls::Hold;
 use channels::Channel;
+use channels::Named;
 use channels::PERMANENTS;
 use channels::Pool;
 use channels::RANGES;
 use channels::Range;
 use pairs::Pairs;
 use pairs::number;
+use service::GlobalState;
+use service::OutOfService;
 use slots::SLOTS;
 use slots::Slots;
 ghost use mathlib.Core.Path.{_≡_};
@@ -24,17 +27,18 @@ ghost use Prim.Native.Nat.{_+_, _*_, _≤_, _<_};
 ghost use lib.Dec.{eqb};
 ghost use lib.ListN.{length};
 ghost use Rattle.channels.specs.Some.{someOf};
-ghost use Rattle.channels.specs.Channels.{rangeCount, among};
+ghost use Rattle.channels.specs.Channels.{rangeCount, isPair, among};
 ghost use Rattle.pairs.specs.Pairs.{isNumber, inPairs, size};
 ghost use Rattle.calls.specs.Calls.{isLive, holdsPair};
-ghost use Rattle.search.specs.Search.{taken, howMany, hasPair, pairsThere, searched};
+ghost use Rattle.service.specs.Service.{onePair};
+ghost use Rattle.search.specs.Search.{takenSingly, howMany, hasPair, there, pairsThere, searched};
 ghost use Rattle.search.specs.Marks.{near, allMarks, used, markIn, nearLast, Added};
 
 // One more than there can be pairs: of so many VCIs one is free.
-const NEAR: usize = 105;
+const NEAR: usize = 170;
 
 // The marks of all ranges.
-const MARKS: usize = 420;
+const MARKS: usize = 680;
 
 // The lowest free pair, and how many pairs were read to find it.
 pub struct Finding {
@@ -143,33 +147,56 @@ fn mark_permanents(pool: Pool, n: usize, on: &mut [bool], reads: &mut u32)
     }
 }
 
-// Reads each pair in doubt.
-fn mark_doubts(pool: Pool, n: usize, doubts: Pairs, on: &mut [bool], reads: &mut u32)
+// Reads each pair of a list: those in doubt, and those out of service.
+fn mark_listed(pool: Pool, n: usize, pairs: Pairs, on: &mut [bool], reads: &mut u32)
     requires { ⌜ (n ≤ rangeCount) × (length (now on) ≡ allMarks) × (now reads ≤ near) ⌝ }
-    ensures count { λ r. ⌜ now (reads .exit) ≡ now (reads .entry) + size doubts ⌝ }
-    ensures marks { λ r. ⌜ Added (pool .ranges) n (λ p v. inPairs doubts p v) (now (on .entry)) (now (on .exit)) ⌝ }
+    ensures count { λ r. ⌜ now (reads .exit) ≡ now (reads .entry) + size pairs ⌝ }
+    ensures marks { λ r. ⌜ Added (pool .ranges) n (λ p v. inPairs pairs p v) (now (on .entry)) (now (on .exit)) ⌝ }
 {
-    let size = doubts.size();
+    let size = pairs.size();
     let mut i: usize = 0;
     while i < size {
-        let pair = doubts.numbers[i];
+        let pair = pairs.numbers[i];
         mark_number(pool, n, pair, on, reads);
         i += 1;
     }
 }
 
-// Reads each pair once. Where none is in doubt the list of them is not handed on.
-fn mark_pairs(pool: Pool, n: usize, slots: Slots, doubts: Pairs, on: &mut [bool], reads: &mut u32)
+// Reads the one pair that a RESTART of ours names.
+fn mark_request(pool: Pool, n: usize, state: GlobalState, on: &mut [bool], reads: &mut u32)
+    requires { ⌜ (n ≤ rangeCount) × (length (now on) ≡ allMarks) × (now reads ≤ near) ⌝ }
+    ensures count { λ r. ⌜ now (reads .exit) ≡ now (reads .entry) + there (onePair state) ⌝ }
+    ensures marks { λ r. ⌜ Added (pool .ranges) n (λ p v. isPair p v (onePair state)) (now (on .entry)) (now (on .exit)) ⌝ }
+{
+    let GlobalState::RestartRequest(named, _, _) = state else {
+        return;
+    };
+    let Named::Pair(vpci, vci) = named else {
+        return;
+    };
+    mark_pair(pool, n, vpci, vci, on, reads);
+}
+
+// Reads each pair once.
+fn mark_pairs(
+    pool: Pool,
+    n: usize,
+    slots: Slots,
+    doubts: Pairs,
+    out: OutOfService,
+    state: GlobalState,
+    on: &mut [bool],
+    reads: &mut u32,
+)
     requires { ⌜ (n ≤ rangeCount) × (length (now on) ≡ allMarks) × (now reads ≡ 0) ⌝ }
-    ensures count { λ r. ⌜ now (reads .exit) ≡ pairsThere (slots .all) doubts (pool .permanents) ⌝ }
-    ensures marks { λ r. ⌜ Added (pool .ranges) n (taken (slots .all) doubts (pool .permanents)) (now (on .entry)) (now (on .exit)) ⌝ }
+    ensures count { λ r. ⌜ now (reads .exit) ≡ pairsThere (slots .all) doubts out state (pool .permanents) ⌝ }
+    ensures marks { λ r. ⌜ Added (pool .ranges) n (takenSingly (slots .all) doubts out state (pool .permanents)) (now (on .entry)) (now (on .exit)) ⌝ }
 {
     mark_slots(pool, n, slots, on, reads);
     mark_permanents(pool, n, on, reads);
-    if doubts.count == 0 {
-        return;
-    }
-    mark_doubts(pool, n, doubts, on, reads);
+    mark_request(pool, n, state, on, reads);
+    mark_listed(pool, n, doubts, on, reads);
+    mark_listed(pool, n, out.pairs, on, reads);
 }
 
 // The last VCI of a range that has a mark.
@@ -177,7 +204,7 @@ fn near_last(range: Range) -> u32
     ensures { λ r. ⌜ r ≡ nearLast range ⌝ }
     ensures within { λ r. ⌜ r ≤ 65535 ⌝ }
 {
-    let near = range.first as u32 + 104;
+    let near = range.first as u32 + 169;
     let last = range.last as u32;
     if near < last {
         return near;
@@ -186,9 +213,15 @@ fn near_last(range: Range) -> u32
 }
 
 // Each pair is read once; then comes the walk over ranges and VCIs, over the marks alone, left by its label at the first
-// free pair. Where no range has a VCI, no pair is read.
-pub fn find_free(pool: Pool, slots: Slots, doubts: Pairs) -> Finding
-    ensures { λ r. ⌜ r ≡ searched (slots .all) doubts pool ⌝ }
+// free pair. Where no range has a VCI, or all pairs are taken at once, no pair is read.
+pub fn find_free(
+    pool: Pool,
+    slots: Slots,
+    doubts: Pairs,
+    out: OutOfService,
+    state: GlobalState,
+) -> Finding
+    ensures { λ r. ⌜ r ≡ searched (slots .all) doubts out state pool ⌝ }
 {
     let mut found = Channel::None;
     let mut reads: u32 = 0;
@@ -199,8 +232,14 @@ pub fn find_free(pool: Pool, slots: Slots, doubts: Pairs) -> Finding
             reads: reads,
         };
     }
+    if service::is_all_taken(out, state) {
+        return Finding {
+            found: found,
+            reads: reads,
+        };
+    }
     let mut on = [false; MARKS];
-    mark_pairs(pool, n, slots, doubts, &mut on, &mut reads);
+    mark_pairs(pool, n, slots, doubts, out, state, &mut on, &mut reads);
     let mut k: usize = 0;
     'search: while k < n {
         let range = pool.ranges[k];

@@ -7,6 +7,7 @@
 //   Slots::lowest_empty           the first empty slot
 //   Slots::hold_at, with_slot     what one slot holds, and one slot changed
 //   Slots::soonest                the timer that a tick fires, and if another is due
+//   Slots::is_some_due            if some timer is due
 //   Slots::in_use, unused_reference   network-originated references
 //   Slots::without, named, any_named   the calls on named pairs go; their flags; if there is one
 //   Slots::fresh, Flags::none, only
@@ -25,7 +26,7 @@ ghost use Rattle.channels.specs.Some.{someOf};
 ghost use Rattle.calls.specs.Calls.{noSlot, isEmpty, isCall, isNamed, emptied};
 ghost use Rattle.first.specs.First.{place};
 ghost use Rattle.slots.specs.Slots.{slotCount, slotsOf, flagsOf, spot, holdAt, Within, inUse, unusedReference};
-ghost use Rattle.slots.specs.Timers.{earlier, considered, soonest};
+ghost use Rattle.slots.specs.Timers.{someDue, earlier, considered, soonest};
 
 pub const SLOTS: usize = 32;
 
@@ -178,6 +179,22 @@ impl Slots {
             i += 1;
         }
         best
+    }
+
+    // If the timer of some slot is due.
+    pub fn is_some_due(self, reading: u64) -> bool
+        ensures { λ r. ⌜ r ≡ someDue reading (self .all) ⌝ }
+    {
+        let mut i: usize = 0;
+        while i < SLOTS {
+            let s = self.all[i];
+            let due = s.due();
+            if due.by(reading) {
+                return true;
+            }
+            i += 1;
+        }
+        false
     }
 
     // If a live network-originated call has the reference.

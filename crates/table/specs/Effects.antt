@@ -1,5 +1,6 @@
 -- The table: what an accepted message and an accepted tick decide (steps 3 to 6, and "Host and timers"), and how a decision is performed.
 --   readAt, withSlot, withDoubt, restarted    a reading stored; with one slot changed; with one pair more in doubt; after a RESTART
+--   requesting, puttingBack            our RESTART is under way; no pair is out of service
 --   tableAfter                         a change performed, and the reading stored
 --   freePair                           the lowest free permitted pair
 --   userCall                           the call that an admitted SETUP makes
@@ -8,12 +9,15 @@
 --   globalEffect                       a message on the global reference
 --   messageEffect                      a message that passed the header checks
 --   noRoom                             if there is no room for a doubt
---   fireHold, fired, tickEffect        the timer that fires: of what a slot holds, of a slot, of a tick
+--   fireHold, fired                    the timer of a slot fires: of what it holds, of the slot
+--   sooner, requestFirst, tickEffect   if T316 comes first; what a tick does
+--   dueAfter                           if another timer is due afterwards
+--   firedSlot, firedRequest            both together
 -- Assumes nothing.
 use Prim.Native.Nat.{ℕ}
-use mathlib.Core.Bool.{Bool, true, false, not, cond, _&&_}
+use mathlib.Core.Bool.{Bool, true, false, not, cond, _&&_, _||_}
 use mathlib.Core.List.{List, map}
-use lib.Dec.{eqb}
+use lib.Dec.{eqb, ltb}
 use lib.ListN.{set}
 use Rattle.channels.specs.declared.Channel.{Channel}
 use Rattle.channels.specs.declared.Channel.the-variants.{None, Pair}
@@ -25,12 +29,19 @@ use Rattle.calls.specs.declared.Call.{Call}
 use Rattle.calls.specs.declared.Hold.{Hold}
 use Rattle.calls.specs.declared.Hold.the-variants.{Empty, Live}
 use Rattle.calls.specs.declared.Slot.{Slot}
+use Rattle.calls.specs.declared.Due.{Due}
+use Rattle.calls.specs.declared.Due.the-variants.{Never, At as DueAt}
 use Rattle.calls.specs.Calls.{isEmpty, isCall, isNamed, emptied}
+use Rattle.calls.specs.Timers.{dueBy}
 use Rattle.first.specs.declared.Found.{Found}
 use Rattle.first.specs.declared.Found.the-variants.{Nothing, At}
 use Rattle.first.specs.First.{place}
 use Rattle.slots.specs.Slots.{slotsOf, holdAt}
-use Rattle.slots.specs.Timers.{nextDue}
+use Rattle.slots.specs.declared.Soonest.{Soonest}
+use Rattle.slots.specs.declared.Soonest.the-variants as soonest
+use Rattle.slots.specs.Timers.{someDue, soonest, nextDue}
+use Rattle.service.specs.declared.GlobalState.the-variants.{RestartRequest}
+use Rattle.service.specs.Service.{globalNumber, globalDue, isWaiting, noneOut}
 use Rattle.search.specs.Search.{taken}
 use Rattle.header.specs.declared.Header.{Header}
 use Rattle.elements.specs.Values.{connectionIn, restartIn}
@@ -42,39 +53,78 @@ use Rattle.setup.specs.Setup.{admission}
 use Rattle.verdicts.specs.Verdict.{plainCause}
 use Rattle.verdicts.specs.Expiry.{expire}
 use Rattle.judging.specs.Judge.{judge, noCallReply, globalReply}
+use Rattle.effects.specs.declared.Ending.{Ending}
 use Rattle.effects.specs.declared.Change.{Change}
 use Rattle.effects.specs.declared.Effect.{Effect}
-use Rattle.effects.specs.Change.{slotsAfter, doubtsAfter}
+use Rattle.effects.specs.Change.{slotsAfter, doubtsAfter, globalEnded, globalAfter, outEnded, outAfter}
 use Rattle.effects.specs.Effect.{quiet, replying, onCall, assigned}
-use Rattle.effects.specs.Restart.{restartEffect}
+use Rattle.restarts.specs.User.{restartEffect}
+use Rattle.restarts.specs.Own.{acknowledgeEffect, expireEffect}
+use Rattle.table.specs.declared.Fired.{Fired}
 use Rattle.table.specs.declared.Table.{Table}
 
 -- "An accepted event stores its reading"
 abbrev pub readAt : Table → ℕ → Table
-readAt t reading = record { slots = t .slots; last = reading; doubts = t .doubts; pool = t .pool }
+readAt t reading = record { slots = t .slots; last = reading; doubts = t .doubts; global = t .global; out = t .out; pool = t .pool }
 
 abbrev pub withSlot : Table → ℕ → ℕ → Slot → Table
-withSlot t reading i s = record { slots = slotsOf (set (t .slots .all) i s); last = reading; doubts = t .doubts; pool = t .pool }
-
-abbrev pub withDoubt : Table → ℕ → ℕ → Table
-withDoubt t p v = record { slots = t .slots; last = t .last; doubts = withPair (t .doubts) p v; pool = t .pool }
-
-abbrev pub restarted : Table → ℕ → Named → Table
-restarted t reading named = record {
-  slots = slotsOf (map (emptied (isNamed named)) (t .slots .all));
+withSlot t reading i s = record {
+  slots = slotsOf (set (t .slots .all) i s);
   last = reading;
-  doubts = unlessNamed (t .doubts) named;
+  doubts = t .doubts;
+  global = t .global;
+  out = t .out;
   pool = t .pool;
 }
 
+abbrev pub withDoubt : Table → ℕ → ℕ → Table
+withDoubt t p v = record {
+  slots = t .slots;
+  last = t .last;
+  doubts = withPair (t .doubts) p v;
+  global = t .global;
+  out = t .out;
+  pool = t .pool;
+}
+
+abbrev pub restarted : Table → ℕ → Named → Ending → Table
+restarted t reading named why = record {
+  slots = slotsOf (map (emptied (isNamed named)) (t .slots .all));
+  last = reading;
+  doubts = unlessNamed (t .doubts) named;
+  global = globalEnded why (t .global);
+  out = outEnded why named (t .out);
+  pool = t .pool;
+}
+
+abbrev pub requesting : Table → ℕ → Named → Bool → ℕ → Table
+requesting t reading named second d = record {
+  slots = t .slots;
+  last = reading;
+  doubts = t .doubts;
+  global = record { state = RestartRequest named second d };
+  out = t .out;
+  pool = t .pool;
+}
+
+abbrev pub puttingBack : Table → ℕ → Table
+puttingBack t reading = record { slots = t .slots; last = reading; doubts = t .doubts; global = t .global; out = noneOut; pool = t .pool }
+
 -- a decision is performed: the table afterwards
 abbrev pub tableAfter : Table → ℕ → Change → Table
-tableAfter t reading x = record { slots = slotsAfter x (t .slots); last = reading; doubts = doubtsAfter x (t .doubts); pool = t .pool }
+tableAfter t reading x = record {
+  slots = slotsAfter x (t .slots);
+  last = reading;
+  doubts = doubtsAfter x (t .doubts);
+  global = globalAfter x (t .global);
+  out = outAfter x (t .out);
+  pool = t .pool;
+}
 
 -- "lowest free permitted pair by VPCI and then VCI": the lowest of a range that is neither held by a live call, nor in doubt, nor
--- permanent (document 02, R-2)
+-- out of service, nor named by our RESTART, nor permanent (document 02, R-2 and R-4)
 abbrev pub freePair : Table → Channel
-freePair t = lowest (taken (t .slots .all) (t .doubts) (t .pool .permanents)) (t .pool .ranges)
+freePair t = lowest (taken (t .slots .all) (t .doubts) (t .out) (t .global .state) (t .pool .permanents)) (t .pool .ranges)
 
 -- "Otherwise: lowest empty slot, lowest free permitted pair .., CALL PROCEEDING with its 5A, state N3, notice 1."
 abbrev pub userCall : ℕ → ℕ → ℕ → Call
@@ -109,12 +159,15 @@ abbrev pub addressed : Table → List ℕ → Header → ℕ → Found → Effec
 addressed t m h reading Nothing = onNoCall t m h
 addressed t m h reading (At i) = onHold m h reading i (holdAt (t .slots .all) i)
 
--- "Global: .. RESTART with flag 0 goes on."; step 5 for RESTART
+-- "Global: .. RESTART with flag 0 goes on."; document 02, R-4: "RESTART ACKNOWLEDGE with flag 1 then goes on to step 5": while one is
+-- outstanding; step 5 for both
 abbrev pub globalEffect : Table → List ℕ → Header → Effect
 globalEffect t m h =
     cond (eqb (h .kind) 0x46 && not (h .flag))
-    (cond (h .whole) (restartEffect (t .pool) (restartIn m 9) (connectionIn m 9)) quiet)
-    (replying (not (h .flag)) 0 (globalReply h))
+    (cond (h .whole) (restartEffect (globalNumber (t .global .state)) (t .pool) (restartIn m 9) (connectionIn m 9)) quiet)
+    (cond ((eqb (h .kind) 0x4E && h .flag) && isWaiting (t .global .state))
+    (cond (h .whole) (acknowledgeEffect (t .global .state) (restartIn m 9) (connectionIn m 9)) quiet)
+    (replying (not (h .flag)) 0 (globalReply (globalNumber (t .global .state)) h)))
 
 -- "3. Reference." "Value 0 is global." "Flag 0 received names a user-originated call, flag 1 a network-originated one."
 abbrev pub messageEffect : Table → List ℕ → Header → ℕ → Effect
@@ -136,5 +189,35 @@ abbrev pub fired : Table → ℕ → Found → Effect
 fired t reading Nothing = quiet
 fired t reading (At i) = fireHold (noRoom t) reading i (holdAt (t .slots .all) i)
 
+-- document 02, R-4: "In a tick T316 comes after slots of equal deadline."
+abbrev pub sooner : Soonest → ℕ → Bool
+sooner soonest.Nothing d = true
+sooner (soonest.Timer i least another) d = ltb d least
+
+abbrev pub requestFirst : ℕ → Soonest → Due → Bool
+requestFirst reading s Never = false
+requestFirst reading s (DueAt d) = dueBy reading (DueAt d) && sooner s d
+
 abbrev pub tickEffect : Table → ℕ → Effect
-tickEffect t reading = fired t reading (nextDue reading (t .slots .all))
+tickEffect t reading =
+    cond (requestFirst reading (soonest reading (t .slots .all)) (globalDue (t .global .state)))
+    (expireEffect (t .global .state) (t .out) reading)
+    (fired t reading (nextDue reading (t .slots .all)))
+
+-- "says if another is due afterwards"; R-4: T316 counts
+abbrev pub dueAfter : Table → ℕ → Change → Bool
+dueAfter t reading x = someDue reading (slotsAfter x (t .slots) .all) || dueBy reading (globalDue (globalAfter x (t .global) .state))
+
+-- what the two kinds of timers do, and if another is due: what the functions beneath `fire` say
+abbrev pub firedSlot : Table → ℕ → Soonest → Fired
+firedSlot t reading soonest.Nothing = record { effect = quiet; more = false }
+firedSlot t reading (soonest.Timer i least another) = record {
+  effect = fireHold (noRoom t) reading i (holdAt (t .slots .all) i);
+  more = another || dueBy reading (globalDue (t .global .state));
+}
+
+abbrev pub firedRequest : Table → ℕ → Fired
+firedRequest t reading = record {
+  effect = expireEffect (t .global .state) (t .out) reading;
+  more = someDue reading (slotsAfter (expireEffect (t .global .state) (t .out) reading .change) (t .slots) .all);
+}

@@ -11,17 +11,16 @@ use mathlib.Core.List.{List, []}
 use Rattle.calls.specs.Calls.{isEmpty}
 use Rattle.first.specs.First.{place}
 use Rattle.slots.specs.Slots.{holdAt}
-use Rattle.slots.specs.Timers.{someDue}
 use Rattle.header.specs.Header.{headOf}
 use Rattle.effects.specs.declared.Effect.{Effect}
-use Rattle.effects.specs.Change.{slotsAfter}
+use Rattle.restarts.specs.Own.{namedBy, requested, putBack}
 use Rattle.table.specs.declared.Table.{Table}
-use Rattle.table.specs.Effects.{freePair, tickEffect}
-use Rattle.refusals.specs.Refusals.{orElse, commonRefusal, sizeRefusal, unconnectable, unclearable, causeRefusal, bodyRefusal, slotRefusal, pairRefusal}
+use Rattle.table.specs.Effects.{freePair, tickEffect, dueAfter}
+use Rattle.refusals.specs.Refusals.{orElse, commonRefusal, sizeRefusal, unconnectable, unclearable, causeRefusal, bodyRefusal, slotRefusal, pairRefusal, targetRefusal}
 use Rattle.outcome.specs.Outcome.{Outcome, sending}
 use Rattle.commands.specs.Commands.{connected, cleared}
 use Rattle.control.specs.Events.{heardBy, offered}
-use Rattle.control.specs.Happens.{Event, message, tick, connect, clear, offer}
+use Rattle.control.specs.Happens.{Event, message, tick, connect, clear, offer, restart, put-back}
 
 -- "All but start carry a clock label, a reading and a reply room."
 abbrev pub labelOf : Event → ℕ
@@ -30,6 +29,8 @@ labelOf (tick label reading room) = label
 labelOf (connect label reading room slot) = label
 labelOf (clear label reading room slot cause) = label
 labelOf (offer label reading room body) = label
+labelOf (restart label reading room target) = label
+labelOf (put-back label reading room) = label
 
 abbrev pub readingOf : Event → ℕ
 readingOf (message label reading room octets) = reading
@@ -37,6 +38,8 @@ readingOf (tick label reading room) = reading
 readingOf (connect label reading room slot) = reading
 readingOf (clear label reading room slot cause) = reading
 readingOf (offer label reading room body) = reading
+readingOf (restart label reading room target) = reading
+readingOf (put-back label reading room) = reading
 
 abbrev pub roomOf : Event → ℕ
 roomOf (message label reading room octets) = room
@@ -44,6 +47,8 @@ roomOf (tick label reading room) = room
 roomOf (connect label reading room slot) = room
 roomOf (clear label reading room slot cause) = room
 roomOf (offer label reading room body) = room
+roomOf (restart label reading room target) = room
+roomOf (put-back label reading room) = room
 
 abbrev pub bodyOf : Event → List ℕ
 bodyOf (message label reading room octets) = []
@@ -51,6 +56,8 @@ bodyOf (tick label reading room) = []
 bodyOf (connect label reading room slot) = []
 bodyOf (clear label reading room slot cause) = []
 bodyOf (offer label reading room body) = body
+bodyOf (restart label reading room target) = []
+bodyOf (put-back label reading room) = []
 
 -- 1 to 4, and what is asked of an event behind them
 abbrev pub commonOf : Table → Event → ℕ
@@ -62,6 +69,8 @@ ownOf t (tick label reading room) = 0
 ownOf t (connect label reading room slot) = unconnectable (holdAt (t .slots .all) slot)
 ownOf t (clear label reading room slot cause) = orElse (unclearable (holdAt (t .slots .all) slot)) (causeRefusal cause)
 ownOf t (offer label reading room body) = orElse (bodyRefusal body) (orElse (slotRefusal (place isEmpty (t .slots .all))) (pairRefusal (freePair t)))
+ownOf t (restart label reading room target) = targetRefusal (t .global .state) (t .pool) target
+ownOf t (put-back label reading room) = 0
 
 abbrev pub refusalOf : Table → Event → ℕ
 refusalOf t e = orElse (commonOf t e) (ownOf t e)
@@ -72,13 +81,17 @@ effectOf t (tick label reading room) = tickEffect t reading
 effectOf t (connect label reading room slot) = connected slot (holdAt (t .slots .all) slot)
 effectOf t (clear label reading room slot cause) = cleared reading slot cause (holdAt (t .slots .all) slot)
 effectOf t (offer label reading room body) = offered t reading (place isEmpty (t .slots .all))
+effectOf t (restart label reading room target) = requested reading (namedBy target) false
+effectOf t (put-back label reading room) = putBack
 
 abbrev pub moreOf : Table → Event → Bool
 moreOf t (message label reading room octets) = false
-moreOf t (tick label reading room) = someDue reading (slotsAfter (tickEffect t reading .change) (t .slots) .all)
+moreOf t (tick label reading room) = dueAfter t reading (tickEffect t reading .change)
 moreOf t (connect label reading room slot) = false
 moreOf t (clear label reading room slot cause) = false
 moreOf t (offer label reading room body) = false
+moreOf t (restart label reading room target) = false
+moreOf t (put-back label reading room) = false
 
 abbrev pub outcomeOf : Table → Event → Outcome
 outcomeOf t e = sending t (readingOf e) (effectOf t e) (moreOf t e) (bodyOf e)

@@ -3,7 +3,8 @@
 --   slotAt          one slot, empty where the table has none
 --   HasCall         slot i holds the live call c in state q
 --   NoneEmpty       no slot is empty
---   OnPair, Holds, InDoubt, NoneFree     a call holds a pair; some live call does; a pair is in doubt; no permitted pair is free
+--   OnPair, Holds, InDoubt     a call holds a pair; some live call does; a pair is in doubt
+--   IsOut, UnderRestart, NoneFree      a pair is out of service; our RESTART names it; no permitted pair is free
 -- Assumes nothing.
 use Prim.Native.Nat.{ℕ, _<_}
 use mathlib.Core.Path.{_≡_}
@@ -17,6 +18,7 @@ use Rattle.calls.specs.declared.Call.{Call}
 use Rattle.calls.specs.declared.Hold.the-variants.{Live}
 use Rattle.calls.specs.declared.Slot.{Slot}
 use Rattle.calls.specs.Calls.{noSlot}
+use Rattle.service.specs.Service.{underRestart, isOut}
 use Rattle.slots.specs.Slots.{slotCount}
 use Rattle.table.specs.declared.Table.{Table}
 
@@ -51,6 +53,15 @@ pub record Holds (t : Table) (p v : ℕ) : Type 0 where
 abbrev pub InDoubt : Table → ℕ → ℕ → Type 0
 InDoubt t p v = inPairs (t .doubts) p v ≡ true
 
--- "no permitted pair free": ""free" now means neither held nor in doubt"
+-- document 02, R-4: the pair is out of service, by a mark of its own or by "all"
+abbrev pub IsOut : Table → ℕ → ℕ → Type 0
+IsOut t p v = isOut (t .out) p v ≡ true
+
+-- document 02, R-4: "Named pairs while T316 runs"
+abbrev pub UnderRestart : Table → ℕ → ℕ → Type 0
+UnderRestart t p v = underRestart (t .global .state) p v ≡ true
+
+-- "no permitted pair free": ""free" now means neither held nor in doubt"; R-4: "Named pairs while T316 runs, and out-of-service pairs, are not
+-- free."
 abbrev pub NoneFree : Table → Type 0
-NoneFree t = (p v : ℕ) → permitted (t .pool) p v ≡ true → Holds t p v ⊎ InDoubt t p v
+NoneFree t = (p v : ℕ) → permitted (t .pool) p v ≡ true → Holds t p v ⊎ (InDoubt t p v ⊎ (IsOut t p v ⊎ UnderRestart t p v))

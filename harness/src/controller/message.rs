@@ -19,17 +19,26 @@ impl Table {
     }
 
     fn global(&mut self, received: &Received<'_>) -> Answer {
-        let reference = Reference::of(received);
+        let (reference, state) = (Reference::of(received), self.global_state());
         let kind = received.kind;
         match (kind, received.flag) {
             (STATUS, _) => Answer::nothing(Row::GlobalStatus),
             (RESTART, false) if received.length_right => self.restart(received),
             (RESTART, false) => Answer::nothing(Row::LengthField),
-            (RESTART_ACKNOWLEDGE, true) => {
-                let reply = status(reference, 0, 101, &[kind]);
+            (RESTART_ACKNOWLEDGE, true) => self.global_acknowledge(received),
+            _ => Answer::reply(Row::GlobalElse, status(reference, state, 81, &[])),
+        }
+    }
+
+    /// With a RESTART of ours under way it goes on to step 5.
+    fn global_acknowledge(&mut self, received: &Received<'_>) -> Answer {
+        match self.under_way {
+            None => {
+                let reply = status(Reference::of(received), 0, 101, &[received.kind]);
                 Answer::reply(Row::GlobalAcknowledge, reply)
             }
-            _ => Answer::reply(Row::GlobalElse, status(reference, 0, 81, &[])),
+            Some(_) if !received.length_right => Answer::nothing(Row::LengthField),
+            Some(under_way) => self.acknowledged(received, under_way.named),
         }
     }
 

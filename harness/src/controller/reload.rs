@@ -1,13 +1,16 @@
 //! Reads a saved form, field by field.
 
+mod pairs;
+
 use super::{hold, Call, Clearing, Reference, State, Table};
-use super::{DOUBTS, HOST_CAUSES, READING_LIMIT, SLOTS, T303, T308, T310};
+use super::{HOST_CAUSES, READING_LIMIT, SLOTS, T303, T308, T310};
 use crate::compose::FLAG;
 use crate::decode::Pair;
 use crate::rows::Row;
+use pairs::read_pair;
 
-/// The tags of the fields that come once.
-const SINGLE: [u8; 4] = [0x01, 0x02, 0x03, 0x05];
+/// The tags of the fields that come once, in their order.
+const SINGLE: [u8; 6] = [0x01, 0x02, 0x03, 0x05, 0x06, 0x07];
 
 /// A tag and the contents behind it.
 type Field<'a> = (u8, &'a [u8]);
@@ -16,7 +19,7 @@ impl Table {
     /// The table that a form says, or why it is refused.
     pub fn reload(octets: &[u8]) -> Result<Table, Row> {
         let fields = fields(octets)?;
-        let [(0x01, ranges), (0x02, pairs), (0x03, reading), (0x05, doubts), ref calls @ ..] =
+        let [(0x01, ranges), (0x02, pairs), (0x03, reading), (0x05, doubts), (0x06, marks), (0x07, restart), ref calls @ ..] =
             fields[..]
         else {
             return Err(misfit(&fields));
@@ -28,27 +31,12 @@ impl Table {
         table.reading = long(reading)?;
         hold(table.reading <= READING_LIMIT, Row::ReloadReading)?;
         table.read_doubts(doubts)?;
+        table.read_marks(marks)?;
+        table.read_restart(restart)?;
         for (_, contents) in calls {
             table.read_call(contents)?;
         }
         Ok(table)
-    }
-
-    fn read_doubts(&mut self, contents: &[u8]) -> Result<(), Row> {
-        let (fours, rest) = contents.as_chunks::<4>();
-        hold(rest.is_empty(), Row::ReloadDoubtsLength)?;
-        hold(fours.len() <= DOUBTS, Row::ReloadDoubtsMany)?;
-        for four in fours {
-            let pair = read_pair(*four);
-            hold(self.pool.within(pair), Row::ReloadDoubtsRange)?;
-            let permanent = self.pool.is_permanent(pair);
-            hold(!permanent, Row::ReloadDoubtsPermanent)?;
-            let last = self.doubts.last().copied();
-            hold(last != Some(pair), Row::ReloadDoubtsTwice)?;
-            hold(last < Some(pair), Row::ReloadDoubtsOrder)?;
-            self.doubts.insert(pair);
-        }
-        Ok(())
     }
 
     /// Puts a call behind those already read.
@@ -98,6 +86,8 @@ impl Table {
         hold(permitted, Row::ReloadPair)?;
         let certain = !self.doubts.contains(&pair);
         hold(certain, Row::ReloadDoubtsHeld)?;
+        hold(!self.marks.all, Row::ReloadAllHeld)?;
+        hold(!self.marks.has(pair), Row::ReloadMarksHeld)?;
         Ok(pair)
     }
 
@@ -138,9 +128,13 @@ impl Table {
     /// The deadline of a timer that runs so long.
     fn read_deadline(&self, octets: &[u8], length: u64) -> Result<u64, Row> {
         let deadline = long(octets)?;
-        let near = deadline <= self.reading + length;
-        hold(near, Row::ReloadDeadline)?;
+        hold(self.is_near(deadline, length), Row::ReloadDeadline)?;
         Ok(deadline)
+    }
+
+    /// A timer that runs so long can have this deadline.
+    fn is_near(&self, deadline: u64, length: u64) -> bool {
+        deadline <= self.reading + length
     }
 }
 
@@ -159,15 +153,17 @@ fn fields(mut octets: &[u8]) -> Result<Vec<Field<'_>>, Row> {
     Ok(fields)
 }
 
-/// Why fields are not one of 01, 02, 03 and 05 each and then calls.
+/// Why fields are not those that come once, in their order, and then calls.
 fn misfit(fields: &[Field<'_>]) -> Row {
     let count = |tag: u8| fields.iter().filter(|field| field.0 == tag).count();
-    let known = |field: &Field<'_>| (0x01..=0x05).contains(&field.0);
+    let known = |field: &Field<'_>| (0x01..=0x07).contains(&field.0);
     if !fields.iter().all(known) {
         return Row::ReloadTag;
     }
     match SINGLE.into_iter().find(|&tag| count(tag) == 0) {
         Some(0x05) => return Row::ReloadDoubtsMissing,
+        Some(0x06) => return Row::ReloadMarksMissing,
+        Some(0x07) => return Row::ReloadRestartMissing,
         Some(_) => return Row::ReloadMissing,
         None => {}
     }
@@ -175,13 +171,6 @@ fn misfit(fields: &[Field<'_>]) -> Row {
         return Row::ReloadRepeated;
     }
     Row::ReloadMisplaced
-}
-
-fn read_pair([a, b, c, d]: [u8; 4]) -> Pair {
-    Pair {
-        vpci: u16::from_be_bytes([a, b]),
-        vci: u16::from_be_bytes([c, d]),
-    }
 }
 
 /// A state with nothing behind it.

@@ -1,7 +1,7 @@
 //! Timers and the tick that fires them.
 
 use super::write::cleared;
-use super::{Answer, Call, Clearing, Flags, Request, State, Table, DOUBTS};
+use super::{Answer, Call, Clearing, Flags, Request, State, Table, UnderWay, DOUBTS};
 use crate::rows::Row;
 use crate::types::RELEASE;
 
@@ -9,6 +9,13 @@ use crate::types::RELEASE;
 pub const T303: u64 = 4_000;
 pub const T308: u64 = 30_000;
 pub const T310: u64 = 10_000;
+pub const T316: u64 = 120_000;
+
+/// A timer that is due: of the call in a slot, or T316.
+enum Due {
+    Call(usize, Call),
+    Restart(UnderWay),
+}
 
 impl Table {
     pub fn tick(&mut self, request: &Request) -> Answer {
@@ -16,21 +23,30 @@ impl Table {
             return Answer::nothing(row);
         }
         self.reading = request.reading;
-        let Some((slot, call)) = self.due() else {
-            return Answer::nothing(Row::TickNone);
+        let answer = match self.due() {
+            None => return Answer::nothing(Row::TickNone),
+            Some(Due::Call(slot, call)) => self.fire(slot, call),
+            Some(Due::Restart(under_way)) => self.give_up(under_way),
         };
-        let answer = self.fire(slot, call);
         Answer {
             more: self.due().is_some(),
             ..answer
         }
     }
 
-    /// The due timer with the smallest deadline, then the lowest slot.
-    fn due(&self) -> Option<(usize, Call)> {
-        let deadline = |call: &Call| call.state.deadline().unwrap_or(u64::MAX);
-        let running = self.live().min_by_key(|(_, call)| deadline(call));
-        running.filter(|(_, call)| deadline(call) <= self.reading)
+    /// The due timer with the smallest deadline, then the lowest slot; T316
+    /// comes after slots of equal deadline.
+    fn due(&self) -> Option<Due> {
+        let slots = self.live().filter_map(|(slot, call)| {
+            let deadline = call.state.deadline()?;
+            Some((deadline, Due::Call(slot, call)))
+        });
+        let restart = self.under_way.iter();
+        let restart = restart.map(|&own| (own.deadline, Due::Restart(own)));
+        // of equal ones the first is taken
+        let running = slots.chain(restart).min_by_key(|timer| timer.0);
+        let (deadline, timer) = running?;
+        (deadline <= self.reading).then_some(timer)
     }
 
     fn fire(&mut self, slot: usize, call: Call) -> Answer {

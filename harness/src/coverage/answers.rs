@@ -15,11 +15,12 @@ const FLAGS: [(&str, &str); 3] = [
 ];
 
 /// Types that the controller sends.
-const SENT: [&str; 8] = [
+const SENT: [&str; 9] = [
     "CALL-PROCEEDING",
     "SETUP",
     "CONNECT",
     "CONNECT-ACKNOWLEDGE",
+    "RESTART",
     "RELEASE",
     "RESTART-ACKNOWLEDGE",
     "RELEASE-COMPLETE",
@@ -51,7 +52,7 @@ pub fn list(rows: &mut Rows) {
             if let ("CALL-PROCEEDING" | "CONNECT" | "RESTART-ACKNOWLEDGE", 0) = (name, flag) {
                 continue;
             }
-            if let ("SETUP" | "CONNECT-ACKNOWLEDGE", 1) = (name, flag) {
+            if let ("SETUP" | "CONNECT-ACKNOWLEDGE" | "RESTART", 1) = (name, flag) {
                 continue;
             }
             rows.add(

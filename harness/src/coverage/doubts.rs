@@ -140,6 +140,7 @@ fn hit_waiting(
                 history.waiting[slot] = is;
             }
             Row::T308Second => rows.hit_if(waited, "DB-wait-done"),
+            Row::T316Gone => {}
             _ => rows.hit_if(waited, "DB-wait-gone"),
         }
     }

@@ -4,7 +4,9 @@ use super::Rows;
 use crate::controller::Table;
 use crate::exchange::{Line, Outcome};
 
-const WORDS: [&str; 6] = ["message", "tick", "connect", "clear", "offer", "save"];
+const WORDS: [&str; 8] = [
+    "message", "tick", "connect", "clear", "offer", "restart", "putback", "save",
+];
 
 pub fn list(rows: &mut Rows) {
     rows.add("LI-skip", "an empty line or a comment");

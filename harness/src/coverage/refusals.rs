@@ -5,7 +5,9 @@ use crate::controller::READING_LIMIT;
 use crate::exchange::Event;
 use crate::rows::Row;
 
-const WORDS: [&str; 5] = ["message", "tick", "connect", "clear", "offer"];
+const WORDS: [&str; 7] = [
+    "message", "tick", "connect", "clear", "offer", "restart", "putback",
+];
 
 const EDGES: [(&str, &str); 18] = [
     ("ED-room-1023", "room 1,023 is refused"),

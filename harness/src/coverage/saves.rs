@@ -164,7 +164,9 @@ fn hit_doubts(rows: &mut Rows, after: &Table, live: usize) {
     }
     let most = doubts == DOUBTS && live == SLOTS;
     rows.hit_if(most, "RL-0-doubts-full");
-    let none = doubts > 0 && after.free_pair().is_none();
+    let mut permitted = after.pool.permitted();
+    let none =
+        doubts > 0 && permitted.all(|pair| after.holds(pair) || after.doubts.contains(&pair));
     rows.hit_if(none, "RL-0-doubts-last");
 }
 

@@ -60,6 +60,10 @@ pub fn list(rows: &mut Rows) {
         "STATUS on no call, length field wrong: ignored",
     );
     rows.add("S5-RESTART", "global RESTART, length field wrong: ignored");
+    rows.add(
+        "S5-RESTART-ACKNOWLEDGE",
+        "RESTART ACKNOWLEDGE for our RESTART, length field wrong: ignored",
+    );
     for row in EARLY {
         let words = format!("length field wrong, yet {}", row.words());
         rows.add(format!("S5-after-{}", row.id()), words);

@@ -81,6 +81,9 @@ fn pairs(draft: &Draft, place: usize) -> Vec<Damage> {
     for &Pair { vpci, vci } in &draft.doubts {
         list.push(refused("a pair in doubt", vpci, vci));
     }
+    for &Pair { vpci, vci } in &draft.marks {
+        list.push(refused("a pair out of service", vpci, vci));
+    }
     let free = draft.free_pair().map(with);
     list.extend(free.map(|draft| Damage::draft("a free pair", &draft, true)));
     list

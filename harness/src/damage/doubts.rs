@@ -1,19 +1,11 @@
 //! What the field of pairs in doubt says, changed.
 
-use super::{Damage, Draft};
+use super::{wider, Damage, Draft, Kind};
 use crate::compose::field;
 use crate::controller::DOUBTS;
 use crate::decode::Pair;
 
-pub fn all(draft: &Draft) -> Vec<Damage> {
-    let mut list = fewer(draft);
-    list.extend(numbers(draft));
-    list.extend(order(draft));
-    list.extend(not_permitted(draft));
-    list.extend(held(draft));
-    list.extend(shapes(draft));
-    list
-}
+pub const KINDS: [Kind; 6] = [fewer, numbers, order, not_permitted, held, shapes];
 
 /// The draft with one more pair in doubt, in its place.
 fn with(draft: &Draft, pair: Pair) -> Draft {
@@ -40,20 +32,11 @@ fn numbers(draft: &Draft) -> Vec<Damage> {
         let more = wide.free_pairs(missing);
         if more.len() == missing {
             let draft = wide.doubting([&draft.doubts[..], &more].concat());
-            let fits = draft.doubts.len() <= DOUBTS;
+            let fits = draft.doubts.len() <= DOUBTS && draft.all == 0;
             list.push(Damage::draft("more pairs in doubt", &draft, fits));
         }
     }
     list
-}
-
-/// The last range with a hundred pairs more, as far as there are so many.
-fn wider(draft: &Draft) -> Draft {
-    let mut draft = draft.clone();
-    if let Some(last) = draft.ranges.last_mut() {
-        *last = last.saturating_add(100);
-    }
-    draft
 }
 
 /// Pairs twice, and pairs that fall.
@@ -97,24 +80,23 @@ fn not_permitted(draft: &Draft) -> Vec<Damage> {
     list
 }
 
-/// The pair of each call.
+/// The pair of each call, and each marked pair.
 fn held(draft: &Draft) -> Vec<Damage> {
+    let what = "a held or marked pair in doubt";
     let pairs = draft.calls.iter().map(|call| call.pair);
-    let doubted = pairs.map(|pair| with(draft, pair));
-    let damages = doubted.map(|draft| Damage::draft("a held pair in doubt", &draft, false));
+    let doubted = pairs.chain(draft.marks.iter().copied());
+    let doubted = doubted.map(|pair| with(draft, pair));
+    let damages = doubted.map(|draft| Damage::draft(what, &draft, false));
     damages.collect()
 }
 
 /// No field at all, and contents that are no whole number of pairs.
 fn shapes(draft: &Draft) -> Vec<Damage> {
     let fields = draft.fields();
-    let ([front @ .., own], calls) = fields.split_at(4) else {
-        return Vec::new();
-    };
-    let with = |own: &[u8]| [&front.concat(), own, &calls.concat()].concat();
+    let with = |own: &[u8]| [&fields[..3].concat(), own, &fields[4..].concat()].concat();
     let mut list = vec![Damage::refused("no field of doubts", with(&[]))];
     for more in 1..4 {
-        let contents = [&own[3..], &[0; 3][..more]].concat();
+        let contents = [&fields[3][3..], &[0; 3][..more]].concat();
         let octets = with(&field(0x05, &contents));
         list.push(Damage::refused("a part of a doubt", octets));
     }

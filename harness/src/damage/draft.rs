@@ -1,8 +1,10 @@
 //! A saved form whose fields can say anything.
 
 use crate::compose::{field, pair_octets, FLAG};
-use crate::controller::{Call, Pool, State, Table, SLOTS, T303, T308, T310};
+use crate::controller::{Call, Named, Pool, State, Table, UnderWay};
+use crate::controller::{SLOTS, T303, T308, T310};
 use crate::decode::Pair;
+use std::collections::BTreeSet;
 
 #[derive(Clone, Debug, PartialEq, Eq)]
 pub struct Draft {
@@ -10,7 +12,19 @@ pub struct Draft {
     pub pairs: Vec<u16>,
     pub reading: u64,
     pub doubts: Vec<Pair>,
+    /// The octet that says if all pairs are out of service.
+    pub all: u8,
+    pub marks: Vec<Pair>,
+    pub restart: Option<Waiting>,
     pub calls: Vec<Entry>,
+}
+
+/// The RESTART under way in a draft; without a pair it names all.
+#[derive(Clone, Copy, Debug, PartialEq, Eq)]
+pub struct Waiting {
+    pub times: u8,
+    pub deadline: u64,
+    pub pair: Option<Pair>,
 }
 
 /// A call in a draft; what is None is not written.
@@ -45,6 +59,9 @@ impl Draft {
             pairs: pairs.flat_map(|pair| [pair.vpci, pair.vci]).collect(),
             reading: table.reading,
             doubts: table.doubts.iter().copied().collect(),
+            all: u8::from(table.marks.all),
+            marks: table.marks.single.iter().copied().collect(),
+            restart: table.under_way.map(Waiting::of),
             calls: table.live().map(Entry::of).collect(),
         }
     }
@@ -55,13 +72,15 @@ impl Draft {
             let octets = numbers.iter().flat_map(|number| number.to_be_bytes());
             octets.collect()
         };
-        let doubts = self.doubts.iter().flat_map(|&pair| pair_octets(pair));
-        let doubts: Vec<u8> = doubts.collect();
+        let marks = [vec![self.all], pairs_octets(&self.marks)].concat();
+        let restart = self.restart.map_or(Vec::new(), Waiting::octets);
         let mut fields = vec![
             field(1, &list(&self.ranges)),
             field(2, &list(&self.pairs)),
             field(3, &self.reading.to_be_bytes()),
-            field(5, &doubts),
+            field(5, &pairs_octets(&self.doubts)),
+            field(6, &marks),
+            field(7, &restart),
         ];
         fields.extend(self.calls.iter().map(|call| field(4, &call.octets())));
         fields
@@ -116,17 +135,63 @@ impl Draft {
         }
     }
 
-    /// So many of the permitted pairs that are neither held nor in doubt.
+    /// The same with these single pairs out of service, ascending.
+    pub fn marking(&self, mut marks: Vec<Pair>) -> Draft {
+        marks.sort_unstable();
+        Draft {
+            marks,
+            ..self.clone()
+        }
+    }
+
+    /// The same with another RESTART under way, or none.
+    pub fn waiting(&self, restart: Option<Waiting>) -> Draft {
+        Draft {
+            restart,
+            ..self.clone()
+        }
+    }
+
+    /// So many of the permitted pairs that are neither held nor in doubt nor
+    /// marked by themselves, and that no RESTART names by itself.
     pub fn free_pairs(&self, most: usize) -> Vec<Pair> {
         let pool = Pool::new(&self.ranges, &self.pairs);
         let permitted = pool.iter().flat_map(Pool::permitted);
-        let held = |pair: Pair| self.calls.iter().any(|call| call.pair == pair);
-        let free = permitted.filter(|&pair| !held(pair) && !self.doubts.contains(&pair));
+        let held = self.calls.iter().map(|call| call.pair);
+        let named = self.restart.and_then(|restart| restart.pair);
+        let listed = self.doubts.iter().chain(&self.marks).copied();
+        let taken: BTreeSet<Pair> = held.chain(named).chain(listed).collect();
+        let free = permitted.filter(|pair| !taken.contains(pair));
         free.take(most).collect()
     }
 
     pub fn free_pair(&self) -> Option<Pair> {
         self.free_pairs(1).pop()
+    }
+}
+
+fn pairs_octets(pairs: &[Pair]) -> Vec<u8> {
+    let octets = pairs.iter().flat_map(|&pair| pair_octets(pair));
+    octets.collect()
+}
+
+impl Waiting {
+    fn of(under_way: UnderWay) -> Waiting {
+        Waiting {
+            times: if under_way.second { 2 } else { 1 },
+            deadline: under_way.deadline,
+            pair: match under_way.named {
+                Named::One(pair) => Some(pair),
+                Named::All => None,
+            },
+        }
+    }
+
+    fn octets(self) -> Vec<u8> {
+        let mut octets = vec![self.times];
+        octets.extend(self.deadline.to_be_bytes());
+        octets.extend(self.pair.map(pair_octets).iter().flatten());
+        octets
     }
 }
 

@@ -4,7 +4,7 @@ use super::{Damage, Draft};
 use crate::compose::{field, raw_field};
 
 /// The fields that are not calls.
-const SINGLE: usize = 4;
+pub const SINGLE: usize = 6;
 
 pub fn all(draft: &Draft) -> Vec<Damage> {
     let fields = draft.fields();
@@ -55,7 +55,9 @@ fn replaced(fields: &[Vec<u8>], place: usize, field: Vec<u8>) -> Vec<u8> {
 
 fn tagged(fields: &[Vec<u8>], place: usize) -> Vec<Damage> {
     let (own, contents) = (fields[place][0], &fields[place][3..]);
-    let tags = [0x00, 0x01, 0x02, 0x03, 0x04, 0x05, 0x06, 0x44, 0x84, 0xff];
+    let tags = [
+        0x00, 0x01, 0x02, 0x03, 0x04, 0x05, 0x06, 0x07, 0x08, 0x44, 0x84, 0xff,
+    ];
     let others = tags.into_iter().filter(|tag| *tag != own);
     let octets = others.map(|tag| replaced(fields, place, field(tag, contents)));
     octets
@@ -73,8 +75,8 @@ fn resized(fields: &[Vec<u8>], place: usize) -> Vec<Damage> {
     )];
     if let [front @ .., _] = contents {
         list.push(Damage::refused("a field shorter", again(front)));
-        let pairs = [0x02, 0x05].contains(&tag);
-        list.push(Damage::new("a field emptied", again(&[]), Some(pairs)));
+        let may = [0x02, 0x05, 0x07].contains(&tag);
+        list.push(Damage::new("a field emptied", again(&[]), Some(may)));
     }
     list
 }
@@ -102,7 +104,7 @@ fn lying(fields: &[Vec<u8>], place: usize) -> Vec<Damage> {
 /// An empty field before a place.
 fn before(fields: &[Vec<u8>], place: usize) -> Vec<Damage> {
     let (front, back) = fields.split_at(place);
-    let tags = [0x00, 0x02, 0x04, 0x05, 0x06, 0xff];
+    let tags = [0x00, 0x02, 0x04, 0x05, 0x06, 0x07, 0x08, 0xff];
     let octets = tags.map(|tag| [front.concat(), field(tag, &[]), back.concat()].concat());
     let damages = octets.map(|octets| Damage::refused("an empty field more", octets));
     damages.into()

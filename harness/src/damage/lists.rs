@@ -2,7 +2,7 @@
 
 use super::draft::{timer, Draft};
 use super::Damage;
-use crate::controller::READING_LIMIT;
+use crate::controller::{READING_LIMIT, T316};
 use crate::decode::Pair;
 
 pub fn all(draft: &Draft) -> Vec<Damage> {
@@ -86,15 +86,17 @@ fn wider(draft: &Draft) -> Option<Damage> {
     Some(Damage::draft("a pair more is permitted", &draft, true))
 }
 
-/// A range that begins behind the pair of a call, or behind a pair in doubt.
+/// A range that begins behind the pair of a call, or behind a pair in doubt,
+/// out of service or under RESTART.
 fn narrower(draft: &Draft) -> Vec<Damage> {
     let held = draft.calls.first().map(|call| call.pair);
+    let (doubt, mark) = (draft.doubts.first(), draft.marks.first());
+    let named = draft.restart.and_then(|restart| restart.pair);
     let tries = [
         ("a call's pair out of range", held),
-        (
-            "a pair in doubt out of range",
-            draft.doubts.first().copied(),
-        ),
+        ("a pair in doubt out of range", doubt.copied()),
+        ("a marked pair out of range", mark.copied()),
+        ("a pair under RESTART out of range", named),
     ];
     let mut list = Vec::new();
     for (what, pair) in tries {
@@ -113,14 +115,19 @@ fn behind(draft: &Draft, Pair { vpci, vci }: Pair) -> Option<Draft> {
     Some(draft)
 }
 
-/// One permanent pair more: of a call, in doubt, or free.
+/// One permanent pair more: of a call, in doubt, out of service, under RESTART,
+/// or free.
 fn permanent(draft: &Draft) -> Vec<Damage> {
     let held = draft.calls.last().map(|call| call.pair);
     let doubt = draft.doubts.last().copied();
+    let mark = draft.marks.last().copied();
+    let named = draft.restart.and_then(|restart| restart.pair);
     let room = draft.pairs.len() < 16;
     let tries = [
         ("a call's pair made permanent", held, false),
         ("a pair in doubt made permanent", doubt, false),
+        ("a marked pair made permanent", mark, false),
+        ("a pair under RESTART made permanent", named, false),
         ("a free pair made permanent", draft.free_pair(), room),
     ];
     let mut list = Vec::new();
@@ -143,7 +150,9 @@ fn permanent(draft: &Draft) -> Vec<Damage> {
 fn readings(draft: &Draft) -> Vec<Damage> {
     let calls = draft.calls.iter();
     let least = calls.filter_map(|call| Some(call.deadline?.saturating_sub(timer(call.state)?)));
-    let least = least.max().unwrap_or(0);
+    let restart = draft.restart.iter();
+    let restart = restart.map(|restart| restart.deadline.saturating_sub(T316));
+    let least = least.chain(restart).max().unwrap_or(0);
     let mut tries = vec![
         ("the largest reading", READING_LIMIT, true),
         ("a reading over the limit", READING_LIMIT + 1, false),

@@ -1,8 +1,8 @@
 //! Tables that no events gave, but that keep the rules.
 
-use super::draft::{timer, Draft, Entry};
+use super::draft::{timer, Draft, Entry, Waiting};
 use crate::compose::FLAG;
-use crate::controller::{Pool, HOST_CAUSES, READING_LIMIT, SLOTS};
+use crate::controller::{Pool, DOUBTS, HOST_CAUSES, MARKS, READING_LIMIT, SLOTS, T316};
 use crate::decode::Pair;
 use crate::random::Random;
 
@@ -13,8 +13,19 @@ const NETWORK: [u8; 4] = [6, 9, 10, 12];
 /// The lists of a start.
 type Lists = (Vec<u16>, Vec<u16>);
 
+/// How many there are to be, as far as there are pairs.
+struct Wish {
+    calls: usize,
+    doubts: usize,
+    marks: usize,
+    /// All pairs are out of service, so there are no calls and no doubts.
+    all: bool,
+    /// So many of a hundred have a RESTART under way.
+    restart: u64,
+}
+
 /// A draft that keeps the rules, with at most so many calls and twice as many
-/// pairs in doubt.
+/// pairs in doubt and out of service.
 pub fn made(random: &mut Random, most: usize) -> Draft {
     let lists = lists(random);
     let reading = match random.below(4) {
@@ -28,38 +39,113 @@ pub fn made(random: &mut Random, most: usize) -> Draft {
         _ => random.below(most + 1),
     };
     let doubts = random.pick(&[0, 0, 0, 1, 2, 5, 63, 64]).min(2 * most);
-    filled(random, lists, reading, calls, doubts)
+    let marks = random.pick(&[0, 0, 0, 1, 2, 5, 63, 64]).min(2 * most);
+    let wish = Wish {
+        calls,
+        doubts,
+        marks,
+        all: random.chance(15),
+        restart: 60,
+    };
+    if most == SLOTS && random.chance(8) {
+        return full(random, reading);
+    }
+    filled(random, lists, reading, &wish)
+}
+
+/// As many calls, doubts and marks as there can be.
+fn full(random: &mut Random, reading: u64) -> Draft {
+    let wish = Wish {
+        calls: SLOTS,
+        doubts: DOUBTS,
+        marks: MARKS,
+        all: false,
+        restart: 90,
+    };
+    let lists = (vec![0, 32, 100, 255, 65_400, 65_535], vec![0, 40]);
+    filled(random, lists, reading, &wish)
 }
 
 /// A draft with these lists that keeps the rules, most often with as many
 /// pairs in doubt as can be, or nearly.
 pub fn doubtful(random: &mut Random, lists: Lists) -> Draft {
+    let wish = Wish {
+        calls: random.below(SLOTS + 1),
+        doubts: random.pick(&[1, 3, 62, 63, 63, 64, 64, 64]),
+        marks: random.pick(&[0, 0, 0, 1, 2]),
+        all: false,
+        restart: 20,
+    };
     let reading = random.within(0, 100_000);
-    let doubts = random.pick(&[1, 3, 62, 63, 63, 64, 64, 64]);
-    let calls = random.below(SLOTS + 1);
-    filled(random, lists, reading, calls, doubts)
+    filled(random, lists, reading, &wish)
 }
 
-/// A draft with so many calls and pairs in doubt, as far as there are pairs.
-fn filled(
-    random: &mut Random,
-    (ranges, pairs): Lists,
-    reading: u64,
-    calls: usize,
-    doubts: usize,
-) -> Draft {
+/// A draft with these lists that keeps the rules, most often with as many
+/// pairs out of service as can be, or nearly.
+pub fn marked(random: &mut Random, lists: Lists) -> Draft {
+    let wish = Wish {
+        calls: random.below(16),
+        doubts: random.pick(&[0, 1, 2, 5, 9]),
+        marks: random.pick(&[1, 3, 62, 63, 63, 64, 64, 64]),
+        all: random.chance(20),
+        restart: 80,
+    };
+    let reading = random.within(0, 100_000);
+    filled(random, lists, reading, &wish)
+}
+
+fn filled(random: &mut Random, (ranges, pairs): Lists, reading: u64, wish: &Wish) -> Draft {
     let mut draft = Draft {
         ranges,
         pairs,
         reading,
         doubts: Vec::new(),
+        all: u8::from(wish.all),
+        marks: Vec::new(),
+        restart: None,
         calls: Vec::new(),
     };
     let mut free = draft.free_pairs(usize::MAX);
     random.shuffle(&mut free);
-    let rest = free.split_off(doubts.min(free.len()));
-    add_calls(random, &mut draft, calls, rest);
-    draft.doubting(free)
+    let mut take = |most: usize| free.split_off(free.len() - most.min(free.len()));
+    let (doubts, marks) = (take(wish.doubts), take(wish.marks));
+    draft = draft.marking(marks);
+    if !wish.all {
+        draft = draft.doubting(doubts);
+        add_calls(random, &mut draft, wish.calls, free);
+    }
+    if random.chance(wish.restart) {
+        draft.restart = Some(restart(random, &draft));
+    }
+    draft
+}
+
+/// A RESTART under way, of all or of a pair of any kind.
+fn restart(random: &mut Random, draft: &Draft) -> Waiting {
+    let held = draft.calls.iter().map(|call| call.pair).collect();
+    let (doubts, marks) = (draft.doubts.clone(), draft.marks.clone());
+    let mut kinds: Vec<Vec<Pair>> = vec![held, doubts, marks, draft.free_pairs(9)];
+    kinds.retain(|kind| !kind.is_empty());
+    let pair = (!kinds.is_empty() && random.chance(80)).then(|| {
+        let kind = &kinds[random.below(kinds.len())];
+        random.pick(kind)
+    });
+    let (reading, most) = (draft.reading, draft.reading + T316);
+    let calls = draft.calls.iter();
+    let running: Vec<u64> = calls.filter_map(|call| call.deadline).collect();
+    let deadline = match random.below(8) {
+        0 => 0,
+        1 => reading,
+        2 => most,
+        3 => random.within(0, most),
+        4..6 if !running.is_empty() => random.pick(&running),
+        _ => random.within(reading, most),
+    };
+    Waiting {
+        times: random.pick(&[1, 2]),
+        deadline,
+        pair,
+    }
 }
 
 /// Lists that start accepts.

@@ -1,5 +1,6 @@
 //! Single octets changed, doubled or missing, and forms that are cut.
 
+use super::fields::SINGLE;
 use super::{Damage, Draft};
 use crate::random::Random;
 
@@ -57,8 +58,8 @@ fn several(random: &mut Random, mut form: Vec<u8>) -> Damage {
     Damage::new("octets changed", form, None)
 }
 
-// A saved form always has an even number of octets, so one octet more or less
-// makes none.
+// One octet more or less makes no form: a field of the same length ends where
+// no tag stands, and with another length what is behind it does not fit.
 
 fn doubled(form: &[u8], place: usize) -> Damage {
     let (front, back) = (&form[..=place], &form[place..]);
@@ -74,10 +75,10 @@ fn longer(form: &[u8], octet: u8) -> Damage {
     Damage::refused("an octet more", [form, &[octet]].concat())
 }
 
-/// What is left behind the field of doubts, or behind a call's, is a form.
+/// What is left behind the field of the RESTART, or behind a call's, is a form.
 fn cut(draft: &Draft, length: usize) -> Damage {
     let fields = draft.fields();
-    let mut ends = (4..=fields.len()).map(|count| fields[..count].concat().len());
+    let mut ends = (SINGLE..=fields.len()).map(|count| fields[..count].concat().len());
     let whole = ends.any(|end| end == length);
     let octets = draft.octets()[..length].to_vec();
     Damage::new("a form cut", octets, Some(whole))

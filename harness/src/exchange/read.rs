@@ -1,7 +1,7 @@
 //! Reads one event.
 
 use super::{LINE_LIMIT, ROOM_LIMIT};
-use crate::controller::Request;
+use crate::controller::{Request, Wanted};
 use crate::line::octets;
 
 /// The longest list of numbers in a start, and the longest octets.
@@ -29,6 +29,8 @@ pub enum Event {
     Connect(Request, u64),
     Clear(Request, u64, u64),
     Offer(Request, Vec<u8>),
+    Restart(Request, Wanted),
+    PutBack(Request),
     /// With the length of the room.
     Save(usize),
     Reload(Vec<u8>),
@@ -44,6 +46,8 @@ impl Event {
             Event::Connect(..) => "connect",
             Event::Clear(..) => "clear",
             Event::Offer(..) => "offer",
+            Event::Restart(..) => "restart",
+            Event::PutBack(_) => "putback",
             Event::Save(_) => "save",
             Event::Reload(_) => "reload",
         }
@@ -57,7 +61,9 @@ impl Event {
             | Event::Tick(request)
             | Event::Connect(request, _)
             | Event::Clear(request, _, _)
-            | Event::Offer(request, _) => Some(request),
+            | Event::Offer(request, _)
+            | Event::Restart(request, _)
+            | Event::PutBack(request) => Some(request),
         }
     }
 }
@@ -103,6 +109,11 @@ fn event(line: &[u8]) -> Option<Event> {
             request(label, reading, room)?,
             read_octets(octets)?,
         )),
+        [b"restart", label, reading, room, ref pairs @ ..] => Some(Event::Restart(
+            request(label, reading, room)?,
+            wanted(pairs)?,
+        )),
+        [b"putback", label, reading, room] => Some(Event::PutBack(request(label, reading, room)?)),
         [b"save", length] => Some(Event::Save(room(length)?)),
         [b"reload", octets] => Some(Event::Reload(read_octets(octets)?)),
         _ => None,
@@ -123,6 +134,18 @@ fn list<'a, 'b>(words: &'a [&'b [u8]]) -> Option<(Vec<u16>, &'a [&'b [u8]])> {
     let short = |word: &&[u8]| u16::try_from(number(word)?).ok();
     let numbers: Option<Vec<u16>> = numbers.iter().map(short).collect();
     Some((numbers?, words))
+}
+
+/// `all`, or `one` with VPCI and VCI.
+fn wanted(words: &[&[u8]]) -> Option<Wanted> {
+    match *words {
+        [b"all"] => Some(Wanted::All),
+        [b"one", vpci, vci] => Some(Wanted::One {
+            vpci: number(vpci)?,
+            vci: number(vci)?,
+        }),
+        _ => None,
+    }
 }
 
 fn request(label: &[u8], reading: &[u8], length: &[u8]) -> Option<Request> {

@@ -5,7 +5,7 @@ use crate::compose::{element, header};
 use crate::types::SETUP;
 
 /// Lines that cannot be read, whatever the table.
-const BAD: [&str; 50] = [
+const BAD: [&str; 66] = [
     "hold",
     "tick",
     "tick 1 0",
@@ -35,6 +35,22 @@ const BAD: [&str; 50] = [
     "message 1 0 1024 09 03",
     "message 1 0 1024 --",
     "offer 1 0 1024 598",
+    "restart",
+    "restart 1 0 1024",
+    "restart 1 0 1024 one",
+    "restart 1 0 1024 one 0",
+    "restart 1 0 1024 one 0 32 33",
+    "restart 1 0 1024 one 0 -",
+    "restart 1 0 1024 one 0 18446744073709551616",
+    "restart 1 0 1024 all 0 32",
+    "restart 1 0 1024 All",
+    "restart 1 0 1024 0 32",
+    "restart 1 0 all",
+    "restart  1 0 1024 all",
+    "putback",
+    "putback 1 0",
+    "putback 1 0 1024 all",
+    "put-back 1 0 1024",
     "start",
     "start 3 0 32 33",
     "start 3 0 32 33 1",

@@ -124,8 +124,10 @@ impl Generator {
     fn kind_in(&mut self, state: State) -> u8 {
         let next = match state {
             State::N3 => STATUS_ENQUIRY,
-            State::N6 { .. } => self.random.pick(&[CALL_PROCEEDING, CONNECT]),
-            State::N9 { .. } => CONNECT,
+            State::N6 { .. } => self
+                .random
+                .pick(&[CALL_PROCEEDING, CALL_PROCEEDING, CONNECT]),
+            State::N9 { .. } => self.random.pick(&[CONNECT, STATUS_ENQUIRY]),
             State::N10 => CONNECT_ACKNOWLEDGE,
             State::N12(_) => STATUS,
         };
@@ -152,6 +154,7 @@ impl Generator {
         let list = match kind {
             SETUP => return self.setup_elements(),
             RESTART => return self.restart_elements(),
+            RESTART_ACKNOWLEDGE => return self.acknowledge_elements(),
             RELEASE if random.chance(10) => vec![],
             RELEASE if random.chance(15) => vec![unreadable(random, CAUSE)],
             RELEASE => vec![readable(random, CAUSE)],

@@ -1,7 +1,8 @@
 //! Labels, readings and rooms.
 
+use super::own_restarts::deadline;
 use super::Generator;
-use crate::controller::READING_LIMIT;
+use crate::controller::{READING_LIMIT, T303, T308, T310};
 
 impl Generator {
     /// Label, reading and room of an event.
@@ -45,27 +46,38 @@ impl Generator {
             4 => return self.random.pick(&[1 << 42, 1 << 63, u64::MAX]),
             5..45 => last,
             _ if tick => self.tick_reading(last),
+            45..50 => self.tied_reading(last),
             _ => last + self.random.within(0, self.plan.pace),
         };
         reading.clamp(last, READING_LIMIT)
+    }
+
+    /// A reading at which a timer of a call gets the deadline of T316.
+    fn tied_reading(&mut self, last: u64) -> u64 {
+        let length = self.random.pick(&[T303, T310, T308]);
+        let tied = self.table().and_then(deadline);
+        tied.map_or(last, |deadline| deadline.saturating_sub(length))
     }
 
     /// A reading near a deadline.
     fn tick_reading(&mut self, last: u64) -> u64 {
         let live = self.live();
         let deadlines = live.iter().filter_map(|(_, call)| call.state.deadline());
-        let mut deadlines: Vec<u64> = deadlines.collect();
+        let restart = self.table().and_then(deadline);
+        let mut deadlines: Vec<u64> = deadlines.chain(restart).collect();
         deadlines.sort_unstable();
         let (Some(&first), Some(&end)) = (deadlines.first(), deadlines.last()) else {
             return last + self.random.within(0, self.plan.pace);
         };
-        match self.random.below(10) {
+        match self.random.below(14) {
             0..3 => first,
             3 | 4 => first.saturating_sub(1),
             5 => self.random.pick(&deadlines),
             6 => self.random.pick(&deadlines).saturating_sub(1),
             7 => end,
             8 => first + self.random.within(1, 5_000),
+            9..12 => restart.unwrap_or(first),
+            12 => restart.unwrap_or(end).saturating_sub(1),
             _ => last + self.random.within(0, self.plan.pace),
         }
     }

@@ -36,7 +36,7 @@ impl Generator {
         self.disturbed(list)
     }
 
-    fn restart_pair(&mut self) -> Pair {
+    pub(super) fn restart_pair(&mut self) -> Pair {
         let any = Pair {
             vpci: self.random.below(300) as u16,
             vci: self.random.next() as u16,

@@ -39,9 +39,9 @@ impl Generator {
     /// Reloads the form last saved, a table that no events gave, or damage.
     fn reload_line(&mut self, saved: Vec<u8>) -> Vec<u8> {
         let octets = match self.random.below(20) {
-            0..8 => saved,
-            8..10 => made(&mut self.random, 32).octets(),
-            10 => Vec::new(),
+            0..6 => saved,
+            6..8 => made(&mut self.random, 32).octets(),
+            8 => Vec::new(),
             _ => self.damaged(&saved),
         };
         if Table::reload(&octets).is_err() {

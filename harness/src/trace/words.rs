@@ -1,6 +1,7 @@
 //! Messages, events and answers in a few words.
 
 use super::{on_wire, Said};
+use crate::controller::Wanted;
 use crate::decode::{decode, receive, Outcome, Part};
 use crate::exchange::Event;
 use crate::types;
@@ -54,6 +55,9 @@ pub fn request(event: &Event) -> Option<String> {
         Event::Message(..) => return None,
         Event::Connect(_, slot) => format!("connect slot {slot}"),
         Event::Clear(_, slot, cause) => format!("clear slot {slot}, cause {cause}"),
+        Event::Restart(_, Wanted::One { vpci, vci }) => format!("restart pair {vpci}/{vci}"),
+        Event::Restart(_, Wanted::All) => "restart all".to_string(),
+        Event::PutBack(_) => "put back".to_string(),
         event => event.word().to_string(),
     })
 }
@@ -105,6 +109,7 @@ pub fn refusal(number: u8) -> String {
         10 => "offer body",
         11 => "no empty slot",
         12 => "no permitted pair free",
+        13 => "RESTART under way, or pair not permitted",
         _ => "unknown number",
     };
     format!("refused {number}: {why}")

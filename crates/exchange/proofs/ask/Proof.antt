@@ -51,6 +51,24 @@ part-offer-end c = rw (c .before .before .request4 .given .1) at (c .before .bef
 offer-requires : tie.Need-offer-requires
 offer-requires c κs = search needs
 
+enum-told-2 : tie.Need-enum-told-2
+enum-told-2 c = search needs
+
+restart-requires : tie.Need-restart-requires
+restart-requires c κs = search needs
+
+enum-known-request-5 : tie.Need-enum-known-request-5
+enum-known-request-5 c = search needs
+
+restart-requires-2 : tie.Need-restart-requires-2
+restart-requires-2 c κs = search needs
+
+enum-told-3 : tie.Need-enum-told-3
+enum-told-3 c = search needs
+
+put-back-requires : tie.Need-put-back-requires
+put-back-requires c κs = search needs
+
 same-length : tie.Need-same-length
 same-length c = search needs
 
@@ -81,6 +99,24 @@ same-length-5 c = search needs
 returns-5 : tie.Need-returns-5
 returns-5 c = search needs
 
+same-length-6 : tie.Need-same-length-6
+same-length-6 c = search needs
+
+returns-6 : tie.Need-returns-6
+returns-6 c = search needs
+
+same-length-7 : tie.Need-same-length-7
+same-length-7 c = search needs
+
+returns-7 : tie.Need-returns-7
+returns-7 c = search needs
+
+same-length-8 : tie.Need-same-length-8
+same-length-8 c = search needs
+
+returns-8 : tie.Need-returns-8
+returns-8 c = search needs
+
 pub ask-spec : {M : Type 1} → statement M
 ask-spec =
     tie.close
@@ -101,6 +137,12 @@ ask-spec =
     part-offer-start
     part-offer-end
     offer-requires
+    enum-told-2
+    restart-requires
+    enum-known-request-5
+    restart-requires-2
+    enum-told-3
+    put-back-requires
     same-length
     returns
     same-length-2
@@ -110,4 +152,10 @@ ask-spec =
     same-length-4
     returns-4
     same-length-5
-    returns-5)
+    returns-5
+    same-length-6
+    returns-6
+    same-length-7
+    returns-7
+    same-length-8
+    returns-8)

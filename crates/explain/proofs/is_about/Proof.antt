@@ -1,7 +1,7 @@
 -- `explain::is_about` meets its contract: each answer by the variants that led to it. Assumes nothing.
 use borrow.Author.Needs.{needs}
-use native.Mathlib.Omega.{arith}
 use lib.ListN.{length-take}
+use native.Mathlib.Omega.{arith}
 use Rattle.explain.proofs.is_about.Statement.{statement}
 use Rattle.explain.proofs.is_about.Tie as tie
 
@@ -37,6 +37,15 @@ enum-known-request-3 c = search needs
 enum-told-3 : tie.Need-enum-told-3
 enum-told-3 c = search needs
 
+enum-told-4 : tie.Need-enum-told-4
+enum-told-4 c = search needs
+
+enum-told-5 : tie.Need-enum-told-5
+enum-told-5 c = search needs
+
+enum-told-6 : tie.Need-enum-told-6
+enum-told-6 c = search needs
+
 returns : tie.Need-returns
 returns c = search needs
 
@@ -55,6 +64,15 @@ returns-5 c = rw (c .before .request3 .given .1)
 returns-6 : tie.Need-returns-6
 returns-6 c = search needs
 
+returns-7 : tie.Need-returns-7
+returns-7 c = search needs
+
+returns-8 : tie.Need-returns-8
+returns-8 c = search needs
+
+returns-9 : tie.Need-returns-9
+returns-9 c = search needs
+
 pub is-about-spec : {M : Type 1} → statement M
 is-about-spec =
     tie.close
@@ -69,9 +87,15 @@ is-about-spec =
     enum-known-request-2
     enum-known-request-3
     enum-told-3
+    enum-told-4
+    enum-told-5
+    enum-told-6
     returns
     returns-2
     returns-3
     returns-4
     returns-5
-    returns-6)
+    returns-6
+    returns-7
+    returns-8
+    returns-9)

@@ -1,8 +1,8 @@
 -- `explain::put_request` meets its contract: each text by the variant that led to it. Assumes nothing.
 use borrow.Author.Needs.{needs}
-use native.Mathlib.Omega.{arith}
-use lib.ListN.{length-take}
 use Rattle.octets.proofs.Stores.{chain}
+use lib.ListN.{length-take}
+use native.Mathlib.Omega.{arith}
 use Rattle.explain.proofs.put_request.Statement.{statement}
 use Rattle.explain.proofs.put_request.Tie as tie
 
@@ -56,6 +56,39 @@ slice-aggregate-put-2 c = search needs
 put-requires-2 : tie.Need-put-requires-2
 put-requires-2 c κs = search needs
 
+enum-told-3 : tie.Need-enum-told-3
+enum-told-3 c = search needs
+
+slice-aggregate-put-3 : tie.Need-slice-aggregate-put-3
+slice-aggregate-put-3 c = search needs
+
+put-requires-3 : tie.Need-put-requires-3
+put-requires-3 c κs = search needs
+
+enum-known-request-4 : tie.Need-enum-known-request-4
+enum-known-request-4 c = search needs
+
+slice-aggregate-put-labelled-3 : tie.Need-slice-aggregate-put-labelled-3
+slice-aggregate-put-labelled-3 c = search needs
+
+put-labelled-requires-3 : tie.Need-put-labelled-requires-3
+put-labelled-requires-3 c κs = search needs
+
+slice-aggregate-put-labelled-4 : tie.Need-slice-aggregate-put-labelled-4
+slice-aggregate-put-labelled-4 c = search needs
+
+put-labelled-requires-4 : tie.Need-put-labelled-requires-4
+put-labelled-requires-4 c κs = search needs
+
+enum-told-4 : tie.Need-enum-told-4
+enum-told-4 c = search needs
+
+slice-aggregate-put-4 : tie.Need-slice-aggregate-put-4
+slice-aggregate-put-4 c = search needs
+
+put-requires-4 : tie.Need-put-requires-4
+put-requires-4 c κs = search needs
+
 same-length : tie.Need-same-length
 same-length c = search needs
 
@@ -86,6 +119,24 @@ same-length-5 c = search needs
 returns-5 : tie.Need-returns-5
 returns-5 c = (rw (c .before .before .before .before .before .enum-told2 .given .1) (c .before .before .put2 .ensures .1), (omega arith, omega arith))
 
+same-length-6 : tie.Need-same-length-6
+same-length-6 c = search needs
+
+returns-6 : tie.Need-returns-6
+returns-6 c = (rw (c .before .before .before .before .before .enum-told3 .given .1) (c .before .before .put3 .ensures .1), (omega arith, omega arith))
+
+same-length-7 : tie.Need-same-length-7
+same-length-7 c = search needs
+
+returns-7 : tie.Need-returns-7
+returns-7 c = (rw (c .before .before .before .before .before .before .before .before .before .before .before .request4 .given .1) (chain (c .before .before .before .before .before .before .before .put-labelled3 .ensures .0) (c .before .before .put-labelled4 .ensures .0)), (omega arith, omega arith))
+
+same-length-8 : tie.Need-same-length-8
+same-length-8 c = search needs
+
+returns-8 : tie.Need-returns-8
+returns-8 c = (rw (c .before .before .before .before .before .enum-told4 .given .1) (c .before .before .put4 .ensures .1), (omega arith, omega arith))
+
 pub put-request-spec : {M : Type 1} → statement M
 put-request-spec =
     tie.close
@@ -106,6 +157,17 @@ put-request-spec =
     enum-told-2
     slice-aggregate-put-2
     put-requires-2
+    enum-told-3
+    slice-aggregate-put-3
+    put-requires-3
+    enum-known-request-4
+    slice-aggregate-put-labelled-3
+    put-labelled-requires-3
+    slice-aggregate-put-labelled-4
+    put-labelled-requires-4
+    enum-told-4
+    slice-aggregate-put-4
+    put-requires-4
     same-length
     returns
     same-length-2
@@ -115,4 +177,10 @@ put-request-spec =
     same-length-4
     returns-4
     same-length-5
-    returns-5)
+    returns-5
+    same-length-6
+    returns-6
+    same-length-7
+    returns-7
+    same-length-8
+    returns-8)

@@ -10,7 +10,7 @@ use Rattle.reading.proofs.slots_in.Statement.{statement}
 use Rattle.reading.proofs.slots_in.Tie as tie
 
 abbrev Inv-loop : tie.InvT-loop
-Inv-loop form at all₀ next₀ i₀ all next i = (i ≤ 32) × (next ≤ 262152 + i * 65538) × (length all ≡ 32) × Walked form at 32 all next i
+Inv-loop form at all₀ next₀ i₀ all next i = (i ≤ 32) × (next ≤ 393228 + i * 65538) × (length all ≡ 32) × Walked form at 32 all next i
 
 abbrev μ-loop : tie.MeasureT-loop
 μ-loop form at all₀ next₀ i₀ all next i = 32 - i

@@ -62,6 +62,18 @@ enum-known-reply-5 c = search needs
 write-restart-pair-requires : tie.Need-write-restart-pair-requires
 write-restart-pair-requires c κs = search needs
 
+enum-told-6 : tie.Need-enum-told-6
+enum-told-6 c = search needs
+
+write-restart-all-requires-2 : tie.Need-write-restart-all-requires-2
+write-restart-all-requires-2 c κs = search needs
+
+enum-known-reply-6 : tie.Need-enum-known-reply-6
+enum-known-reply-6 c = search needs
+
+write-restart-pair-requires-2 : tie.Need-write-restart-pair-requires-2
+write-restart-pair-requires-2 c κs = search needs
+
 returns : tie.Need-returns
 returns c = rw (c .enum-told .given .1) (refl, refl)
 
@@ -119,6 +131,18 @@ same-length-9 c = search needs
 returns-10 : tie.Need-returns-10
 returns-10 c = rw (c .before .before .before .before .before .reply5 .given .1) (c .before .before .write-restart-pair .ensures)
 
+same-length-10 : tie.Need-same-length-10
+same-length-10 c = search needs
+
+returns-11 : tie.Need-returns-11
+returns-11 c = rw (c .before .before .before .before .enum-told6 .given .1) (c .before .before .write-restart-all2 .ensures)
+
+same-length-11 : tie.Need-same-length-11
+same-length-11 c = search needs
+
+returns-12 : tie.Need-returns-12
+returns-12 c = rw (c .before .before .before .before .before .reply6 .given .1) (c .before .before .write-restart-pair2 .ensures)
+
 pub write-spec : {M : Type 1} → statement M
 write-spec =
     tie.close
@@ -142,6 +166,10 @@ write-spec =
     write-restart-all-requires
     enum-known-reply-5
     write-restart-pair-requires
+    enum-told-6
+    write-restart-all-requires-2
+    enum-known-reply-6
+    write-restart-pair-requires-2
     returns
     same-length
     returns-2
@@ -160,4 +188,8 @@ write-spec =
     same-length-8
     returns-9
     same-length-9
-    returns-10)
+    returns-10
+    same-length-10
+    returns-11
+    same-length-11
+    returns-12)

@@ -23,7 +23,7 @@ returns : tie.Need-returns
 returns c = let e = c .before .before in
     let h = e .before .before .before .before in
     let a = h .before .before .before .args in
-    whole (a .flag) (a .reference) 0x4E 5 (restart 0x82 ∷ []) refl (omega arith)
+    whole (a .flag) (a .reference) (a .kind) 5 (restart 0x82 ∷ []) refl (omega arith)
     (chain (h .put-header .ensures) (e .put-short .ensures))
 
 pub write-restart-all-spec : {M : Type 1} → statement M

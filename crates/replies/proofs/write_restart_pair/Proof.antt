@@ -27,7 +27,7 @@ returns c = let e = c .before .before in
     let s = e .before .before .before .before in
     let h = s .before .before .before .before in
     let a = h .before .before .before .args in
-    whole (a .flag) (a .reference) 0x4E 14 (restart 0x80 ∷ connection (a .vpci) (a .vci) ∷ []) refl (omega arith)
+    whole (a .flag) (a .reference) (a .kind) 14 (restart 0x80 ∷ connection (a .vpci) (a .vci) ∷ []) refl (omega arith)
     (chain (h .put-header .ensures) (chain (s .put-short .ensures) (e .put-connection .ensures)))
 
 pub write-restart-pair-spec : {M : Type 1} → statement M

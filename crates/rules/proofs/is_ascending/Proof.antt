@@ -12,10 +12,10 @@ use Rattle.rules.proofs.is_ascending.Statement.{statement}
 use Rattle.rules.proofs.is_ascending.Tie as tie
 
 abbrev Inv-loop : tie.InvT-loop
-Inv-loop doubts n i₀ i = (i ≤ n) × Span doubts n × (ascending (listed doubts) ≡ ascending (drop i (listed doubts)))
+Inv-loop pairs n i₀ i = (i ≤ n) × Span pairs n × (ascending (listed pairs) ≡ ascending (drop i (listed pairs)))
 
 abbrev μ-loop : tie.MeasureT-loop
-μ-loop doubts n i₀ i = n - i
+μ-loop pairs n i₀ i = n - i
 
 size-requires : tie.Need-size-requires Inv-loop μ-loop
 size-requires c κs = search needs

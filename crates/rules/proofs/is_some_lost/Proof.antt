@@ -13,17 +13,17 @@ use Rattle.rules.proofs.is_some_lost.Statement.{statement}
 use Rattle.rules.proofs.is_some_lost.Tie as tie
 
 abbrev Inv-loop : tie.InvT-loop
-Inv-loop table doubts n i₀ i = (i ≤ n) × Span doubts n × (someOf (isLost table) (listed doubts) ≡ someOf (isLost table) (drop i (listed doubts)))
+Inv-loop table others pairs n i₀ i = (i ≤ n) × Span pairs n × (someOf (isLost table others) (listed pairs) ≡ someOf (isLost table others) (drop i (listed pairs)))
 
 abbrev μ-loop : tie.MeasureT-loop
-μ-loop table doubts n i₀ i = n - i
+μ-loop table others pairs n i₀ i = n - i
 
 size-requires : tie.Need-size-requires Inv-loop μ-loop
 size-requires c κs = search needs
 
 loop-holds : tie.Need-loop-holds Inv-loop μ-loop
 loop-holds c =
-    let s = c .before .before .args .table .doubts in
+    let s = c .before .args .t3 in
     let l : length (s .numbers) ≡ 64 = search needs in
     (search needs, rw (c .size .ensures .0) (span-size s l), refl)
 
@@ -39,8 +39,8 @@ is-lost-requires c κs = search needs
 returns : tie.Need-returns Inv-loop μ-loop
 returns c =
     let l = c .before .before .before .before in
-    let t = l .before .before .before .args .table in
-    sym (l .loop .inv .2 ∙ rw (listed-next (t .doubts) _ (l .loop .i) (l .loop .inv .1) (omega arith), sym (c .before .is-lost .ensures) ∙ c .if1 .taken))
+    let s = l .before .before .args .t3 in
+    sym (l .loop .inv .2 ∙ rw (listed-next s _ (l .loop .i) (l .loop .inv .1) (omega arith), sym (c .before .is-lost .ensures) ∙ c .if1 .taken))
 
 add-i : tie.Need-add-i Inv-loop μ-loop
 add-i c = search needs
@@ -51,16 +51,16 @@ loop-less c = search needs
 loop-again : tie.Need-loop-again Inv-loop μ-loop
 loop-again c =
     let l = c .before .before .before .before in
-    let t = l .before .before .before .args .table in (
+    let s = l .before .before .args .t3 in (
       search needs,
       search needs,
-      l .loop .inv .2 ∙ rw (listed-next (t .doubts) _ (l .loop .i) (l .loop .inv .1) (omega arith), sym (c .before .is-lost .ensures) ∙ c .if1 .left),
+      l .loop .inv .2 ∙ rw (listed-next s _ (l .loop .i) (l .loop .inv .1) (omega arith), sym (c .before .is-lost .ensures) ∙ c .if1 .left),
     )
 
 returns-2 : tie.Need-returns-2 Inv-loop μ-loop
 returns-2 c =
     let l = c .before in
-    sym (l .loop .inv .2 ∙ rw (drop-of-length-le (listed (l .before .before .before .args .table .doubts)) {i = l .loop .i} (omega arith)))
+    sym (l .loop .inv .2 ∙ rw (drop-of-length-le (listed (l .before .before .args .t3)) {i = l .loop .i} (omega arith)))
 
 pub is-some-lost-spec : {M : Type 1} → statement M
 is-some-lost-spec =

@@ -6,11 +6,11 @@ use Rattle.fields.proofs.Filed.{filed}
 use Rattle.saved.proofs.put_doubt_field.Statement.{statement}
 use Rattle.saved.proofs.put_doubt_field.Tie as tie
 
-slice-aggregate-put-doubts : tie.Need-slice-aggregate-put-doubts
-slice-aggregate-put-doubts c = search needs
+slice-aggregate-put-pairs : tie.Need-slice-aggregate-put-pairs
+slice-aggregate-put-pairs c = search needs
 
-put-doubts-requires : tie.Need-put-doubts-requires
-put-doubts-requires c κs = search needs
+put-pairs-requires : tie.Need-put-pairs-requires
+put-pairs-requires c κs = search needs
 
 array-share-prefix-contents : tie.Need-array-share-prefix-contents
 array-share-prefix-contents c = search needs
@@ -27,7 +27,7 @@ same-length c = search needs
 returns : tie.Need-returns
 returns c =
     let f = c .before .before in
-    let w = f .before .before .before .before .put-doubts .ensures in
+    let w = f .before .before .before .before .put-pairs .ensures in
     let r = filed (w .0) (omega arith) (f .put-field .ensures .0) in
     (r, omega (arith, w .0 .past, r .past))
 
@@ -35,8 +35,8 @@ pub put-doubt-field-spec : {M : Type 1} → statement M
 put-doubt-field-spec =
     tie.close
     (tie.spec
-    slice-aggregate-put-doubts
-    put-doubts-requires
+    slice-aggregate-put-pairs
+    put-pairs-requires
     array-share-prefix-contents
     slice-aggregate-put-field
     put-field-requires

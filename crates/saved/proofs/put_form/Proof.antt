@@ -17,6 +17,12 @@ put-reading-field-requires c κs = search needs
 put-doubt-field-requires : tie.Need-put-doubt-field-requires
 put-doubt-field-requires c κs = search needs
 
+put-out-field-requires : tie.Need-put-out-field-requires
+put-out-field-requires c κs = search needs
+
+put-request-field-requires : tie.Need-put-request-field-requires
+put-request-field-requires c κs = search needs
+
 put-calls-requires : tie.Need-put-calls-requires
 put-calls-requires c κs = search needs
 
@@ -26,14 +32,18 @@ same-length c = search needs
 returns : tie.Need-returns
 returns c =
     let s = c .before .before in
-    let d = s .before .before .before .before in
+    let q = s .before .before .before .before in
+    let o = q .before .before .before .before in
+    let d = o .before .before .before .before in
     let l = d .before .before .before .before in
     let p = l .before .before .before .before in
     let r = p .before .before .before .before in
     let w =
     chain (r .put-range-field .ensures .0)
     (chain (p .put-permanent-field .ensures .0)
-    (chain (l .put-reading-field .ensures) (chain (d .put-doubt-field .ensures .0) (s .put-calls .ensures .0)))) in
+    (chain (l .put-reading-field .ensures)
+    (chain (d .put-doubt-field .ensures .0)
+    (chain (o .put-out-field .ensures .0) (chain (q .put-request-field .ensures .0) (s .put-calls .ensures .0)))))) in
     (w, (w .past, omega arith))
 
 pub put-form-spec : {M : Type 1} → statement M
@@ -44,6 +54,8 @@ put-form-spec =
     put-permanent-field-requires
     put-reading-field-requires
     put-doubt-field-requires
+    put-out-field-requires
+    put-request-field-requires
     put-calls-requires
     same-length
     returns)

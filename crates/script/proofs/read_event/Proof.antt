@@ -40,6 +40,18 @@ last-octets-requires-2 c κs = search needs
 offer-requires : tie.Need-offer-requires
 offer-requires c κs = search needs
 
+enum-told-6 : tie.Need-enum-told-6
+enum-told-6 c = search needs
+
+restart-requires : tie.Need-restart-requires
+restart-requires c κs = search needs
+
+enum-told-7 : tie.Need-enum-told-7
+enum-told-7 c = search needs
+
+put-back-requires : tie.Need-put-back-requires
+put-back-requires c κs = search needs
+
 same-length : tie.Need-same-length
 same-length c = search needs
 
@@ -65,6 +77,12 @@ returns-5 c =
     let o = c .before .before .before .last-octets2 .ensures in
     (rw (c .before .before .before .before .before .enum-told5 .given .1) (c .offer .ensures .0 ∙ rw (o .0 .0), o .0 .1), c .offer .ensures .1 _ (o .1))
 
+returns-6 : tie.Need-returns-6
+returns-6 c = (rw (c .before .enum-told6 .given .1) (c .restart .ensures .0, refl), c .restart .ensures .1 _)
+
+returns-7 : tie.Need-returns-7
+returns-7 c = (rw (c .before .enum-told7 .given .1) (c .put-back .ensures .0, refl), c .put-back .ensures .1 _)
+
 pub read-event-spec : {M : Type 1} → statement M
 read-event-spec =
     tie.close
@@ -81,10 +99,16 @@ read-event-spec =
     enum-told-5
     last-octets-requires-2
     offer-requires
+    enum-told-6
+    restart-requires
+    enum-told-7
+    put-back-requires
     same-length
     returns
     returns-2
     returns-3
     returns-4
     same-length-2
-    returns-5)
+    returns-5
+    returns-6
+    returns-7)

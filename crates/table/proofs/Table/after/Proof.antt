@@ -1,4 +1,3 @@
--- `Table::after` meets its contract: by the change. Assumes nothing.
 use borrow.Author.Needs.{needs}
 use Rattle.table.proofs.Table.after.Statement.{statement}
 use Rattle.table.proofs.Table.after.Tie as tie
@@ -33,6 +32,18 @@ enum-known-change-3 c = search needs
 restart-requires : tie.Need-restart-requires
 restart-requires c κs = search needs
 
+enum-known-change-4 : tie.Need-enum-known-change-4
+enum-known-change-4 c = search needs
+
+request-requires : tie.Need-request-requires
+request-requires c κs = search needs
+
+enum-told-2 : tie.Need-enum-told-2
+enum-told-2 c = search needs
+
+put-back-requires : tie.Need-put-back-requires
+put-back-requires c κs = search needs
+
 returns : tie.Need-returns
 returns c = rw (c .before .enum-told .given .1) (c .at .ensures)
 
@@ -40,11 +51,16 @@ returns-2 : tie.Need-returns-2
 returns-2 c = rw (c .before .before .change .given .1) (c .put .ensures)
 
 returns-3 : tie.Need-returns-3
-returns-3 c =
-    rw (c .before .before .before .before .change2 .given .1, c .doubt .ensures, c .before .put2 .ensures, c .before .before .empty .ensures)
+returns-3 c = rw (c .before .before .before .before .change2 .given .1, c .doubt .ensures, c .before .put2 .ensures, c .before .before .empty .ensures)
 
 returns-4 : tie.Need-returns-4
 returns-4 c = rw (c .before .before .change3 .given .1) (c .restart .ensures)
+
+returns-5 : tie.Need-returns-5
+returns-5 c = rw (c .before .before .change4 .given .1) (c .request .ensures)
+
+returns-6 : tie.Need-returns-6
+returns-6 c = rw (c .before .enum-told2 .given .1) (c .put-back .ensures)
 
 pub after-spec : {M : Type 1} → statement M
 after-spec =
@@ -60,7 +76,13 @@ after-spec =
     doubt-requires
     enum-known-change-3
     restart-requires
+    enum-known-change-4
+    request-requires
+    enum-told-2
+    put-back-requires
     returns
     returns-2
     returns-3
-    returns-4)
+    returns-4
+    returns-5
+    returns-6)

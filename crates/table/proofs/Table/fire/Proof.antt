@@ -1,64 +1,57 @@
--- `Table::fire` meets its contract: by the soonest timer, and `Another` for those that are left. Assumes nothing.
 use borrow.Author.Needs.{needs}
-use Rattle.table.proofs.Another.{another-after}
-use Rattle.table.specs.Effects.{noRoom}
-use Rattle.slots.proofs.Timers.{next-due-nothing}
-use Rattle.slots.specs.Timers.{placeOf, nextDue}
-use Rattle.first.specs.declared.Found.the-variants.{Nothing, At}
-use mathlib.Core.Path.{_≡_, sym, ap, _∙_}
+use mathlib.Core.Path.{refl, sym, ap, _∙_}
+use Rattle.slots.specs.declared.Soonest.{Soonest}
+use Rattle.slots.specs.Timers.{soonest}
+use Rattle.table.specs.declared.Fired.{Fired}
+use Rattle.table.specs.Effects.{requestFirst, firedSlot}
+use Rattle.table.proofs.Another.{fired-request, fired-slot}
 use Rattle.table.proofs.Table.fire.Statement.{statement}
 use Rattle.table.proofs.Table.fire.Tie as tie
+
+due-requires : tie.Need-due-requires
+due-requires c κs = search needs
 
 soonest-requires : tie.Need-soonest-requires
 soonest-requires c κs = search needs
 
-enum-told : tie.Need-enum-told
-enum-told c = search needs
+is-first-requires : tie.Need-is-first-requires
+is-first-requires c κs = search needs
 
-quiet-requires : tie.Need-quiet-requires
-quiet-requires c κs = search needs
-
-enum-known-i : tie.Need-enum-known-i
-enum-known-i c = search needs
-
-is-full-requires : tie.Need-is-full-requires
-is-full-requires c κs = search needs
-
-hold-at-requires : tie.Need-hold-at-requires
-hold-at-requires c κs = search needs
-
-fire-slot-requires : tie.Need-fire-slot-requires
-fire-slot-requires c κs = search needs
+fire-request-requires : tie.Need-fire-request-requires
+fire-request-requires c κs = search needs
 
 returns : tie.Need-returns
 returns c =
-    let f = c .before .before .before in
-    let a = f .before .before .before .args in
-    let e : nextDue (a .reading) (a .self .slots .all) ≡ Nothing = ap placeOf (sym (f .soonest .ensures) ∙ c .before .enum-told .given .1) in
-    rw e (c .quiet .ensures, sym (next-due-nothing (a .reading) (a .self .slots .all) e))
+    let b = c .before .before in
+    let s = b .before in
+    let a = s .before .before .before .before .args in
+    let due = ap (requestFirst (a .reading) (soonest (a .reading) (a .self .slots .all))) (s .before .due .ensures) in
+    let first = sym (b .is-first .ensures ∙ ap (λ (x : Soonest). requestFirst (a .reading) x (s .before .due .result)) (s .soonest .ensures) ∙ due) ∙ c .before .if1 .taken in
+    let f = fired-request (a .self) (a .reading) in
+    rw first (ap (λ (x : Fired). x .effect) (c .fire-request .ensures) ∙ f .effect, ap (λ (x : Fired). x .more) (c .fire-request .ensures) ∙ f .more)
+
+fire-soonest-requires : tie.Need-fire-soonest-requires
+fire-soonest-requires c κs = search needs
 
 returns-2 : tie.Need-returns-2
 returns-2 c =
-    let b = c .before .before .before .before in
-    let f = b .before .before in
-    let a = f .before .before .before .args in
-    let found = sym (f .soonest .ensures) ∙ b .i .given .1 in
-    let e : nextDue (a .reading) (a .self .slots .all) ≡ At _ = ap placeOf found in
-    rw e (
-      c .fire-slot .ensures ∙ rw (c .before .hold-at .ensures .0, c .before .before .is-full .ensures),
-      sym (another-after (noRoom (a .self)) (a .reading) (a .self .slots) _ _ _ found),
-    )
+    let b = c .before .before in
+    let s = b .before in
+    let a = s .before .before .before .before .args in
+    let due = ap (requestFirst (a .reading) (soonest (a .reading) (a .self .slots .all))) (s .before .due .ensures) in
+    let first = sym (b .is-first .ensures ∙ ap (λ (x : Soonest). requestFirst (a .reading) x (s .before .due .result)) (s .soonest .ensures) ∙ due) ∙ c .before .if1 .left in
+    let same = c .fire-soonest .ensures ∙ ap (firedSlot (a .self) (a .reading)) (s .soonest .ensures) in
+    let f = fired-slot (a .self) (a .reading) (soonest (a .reading) (a .self .slots .all)) refl first in
+    rw first (ap (λ (x : Fired). x .effect) same ∙ f .effect, ap (λ (x : Fired). x .more) same ∙ f .more)
 
 pub fire-spec : {M : Type 1} → statement M
 fire-spec =
     tie.close
     (tie.spec
+    due-requires
     soonest-requires
-    enum-told
-    quiet-requires
-    enum-known-i
-    is-full-requires
-    hold-at-requires
-    fire-slot-requires
+    is-first-requires
+    fire-request-requires
     returns
+    fire-soonest-requires
     returns-2)

@@ -1,0 +1,2 @@
+pub mod User
+pub mod Own
