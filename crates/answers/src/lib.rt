@@ -3,6 +3,8 @@
 //   put_flags       slot numbers in ascending order, joined by commas, or `-` for none
 //   put_answer      a whole answer line
 // Each asks for room; octets around what it writes are unchanged. Assumes nothing.
+#![tactic(auto)]
+
 ghost use Rattle.std.specs.Prelude.{◌≡◌, true, cond, [], ◌+◌, ◌*◌, ◌≤◌, ◌<◌, length};
 ghost use Rattle.octets.specs.Octets.{Wrote};
 ghost use Rattle.answers.specs.Text.{hex_glyph, hex_text, reply_text, slot_text, slots_text, flags_text, more_text, first_text, last_text, answer_text};

@@ -2,6 +2,8 @@
 //   put_decimal     a number below 2^64 in decimal
 //   put_octet       a number below 256 in decimal: at most three digits
 // Each asks for room; octets around what it writes are unchanged. Assumes nothing.
+#![tactic(auto)]
+
 ghost use Rattle.std.specs.Prelude.{◌≡◌, ◌+◌, ◌≤◌, ◌<◌, length};
 ghost use Rattle.octets.specs.Octets.{Wrote};
 ghost use Rattle.ascii.specs.Ascii.{decimal_text};

@@ -9,6 +9,8 @@
 //   Slot::..                      what one slot holds
 // A slot is 32 octets long: what is small stands first in a variant, beside its tag.
 // Nothing here has a `requires`. Assumes nothing.
+#![tactic(auto)]
+
 ghost use Rattle.std.specs.Prelude.{◌≡◌, true, false};
 ghost use Rattle.calls.specs.Calls.{state_number, no_slot, live_slot, is_empty, is_live, is_call, holds_pair, entry_of, is_named, emptied};
 ghost use Rattle.calls.specs.Timers.{state_due, deadline_of, due_by};
@@ -25,7 +27,7 @@ pub const T310: u64 = 10000;
 
 // Clearing in N12: if T308 runs a second time, and the cause of the first RELEASE; expired: T310 ran out, and the
 // diagnostic is "310", otherwise there is none.
-#[derive(Drop)]
+#[derive(Clone, Copy)]
 pub struct Clearing {
     pub second: bool,
     pub cause: u8,
@@ -33,7 +35,7 @@ pub struct Clearing {
 }
 
 // The state of a live call. The number is the deadline of T303 in N6, of T310 in N9 and of T308 in N12.
-#[derive(Drop)]
+#[derive(Clone, Copy)]
 pub enum State {
     N3,
     N6(u64),
@@ -43,7 +45,7 @@ pub enum State {
 }
 
 // Who a live call is, and the pair that it holds. `network`: it is network-originated.
-#[derive(Drop)]
+#[derive(Clone, Copy)]
 pub struct Call {
     pub network: bool,
     pub vpci: u16,
@@ -51,19 +53,19 @@ pub struct Call {
     pub reference: u32,
 }
 
-#[derive(Drop)]
+#[derive(Clone, Copy)]
 pub enum Hold {
     Empty,
     Live(Call, State),
 }
 
-#[derive(Drop)]
+#[derive(Clone, Copy)]
 pub struct Slot {
     pub hold: Hold,
 }
 
 // A deadline, or none.
-#[derive(Drop)]
+#[derive(Clone, Copy)]
 pub enum Due {
     Never,
     At(u64),

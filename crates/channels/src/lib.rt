@@ -11,6 +11,8 @@
 //   Pool::knows_vpci          if a VPCI stands in a range or in a permanent pair
 //   Pool::empty               the pool without ranges and without permanent pairs
 // Nothing here has a `requires`. Assumes nothing.
+#![tactic(auto)]
+
 ghost use Rattle.std.specs.Prelude.{◌≡◌};
 ghost use Rattle.channels.specs.Order.{is_none, entry_before};
 ghost use Rattle.channels.specs.Channels.{is_entry, among, in_range, in_ranges, permitted, spans_vpci, names_vpci, spanned_vpci, named_vpci, known_vpci, no_range, empty_pool};
@@ -20,20 +22,20 @@ pub const RANGES: usize = 4;
 pub const PERMANENTS: usize = 8;
 
 // A VPCI and a VCI, or none.
-#[derive(Drop)]
+#[derive(Clone, Copy)]
 pub enum Channel {
     None,
     Pair(u16, u16),
 }
 
 // One place of a list of pairs.
-#[derive(Drop)]
+#[derive(Clone, Copy)]
 pub struct Entry {
     pub channel: Channel,
 }
 
 // The pairs of one VPCI from a first VCI to a last one. An unused range has first above last: (0, 1, 0).
-#[derive(Drop)]
+#[derive(Clone, Copy)]
 pub struct Range {
     pub vpci: u16,
     pub first: u16,
@@ -41,14 +43,14 @@ pub struct Range {
 }
 
 // What start permits. An unused permanent pair is none.
-#[derive(Drop)]
+#[derive(Clone, Copy)]
 pub struct Pool {
     pub ranges: [Range; RANGES],
     pub permanents: [Entry; PERMANENTS],
 }
 
 // The pairs that a RESTART names: all, or the pair of a VPCI and a VCI.
-#[derive(Drop)]
+#[derive(Clone, Copy)]
 pub enum Named {
     All,
     Pair(u16, u16),

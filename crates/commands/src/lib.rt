@@ -4,6 +4,8 @@
 //   offer_call        SETUP on a pair, and T303 runs
 // `clear_call` and `offer_call` ask for a reading that is not refused. They are no entry points; no event of control has a
 // `requires`. Assumes nothing.
+#![tactic(auto)]
+
 ghost use Rattle.std.specs.Prelude.{◌≡◌, ◌≤◌};
 ghost use Rattle.calls.specs.Timers.{largest_reading};
 ghost use Rattle.commands.specs.Commands.{connected, cleared, offered_on};

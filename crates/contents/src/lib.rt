@@ -6,6 +6,8 @@
 //   fits                              the rule of an identifier
 // 59 Traffic descriptor is in crate traffic; 5C QoS, 5E Bearer capability and 70 Called number are in crate mandatory.
 // Nothing has a `requires`. Assumes nothing.
+#![tactic(auto)]
+
 ghost use Rattle.std.specs.Prelude.{◌≡◌};
 ghost use Rattle.contents.specs.Contents.{cause_fits, cause_number, call_state_fits, call_state_value, connection_fits, connection_in, restart_fits, restart_class};
 ghost use Rattle.contents.specs.Fits.{fits};
@@ -48,7 +50,7 @@ pub fn call_state(c: &[u8]) -> u8
 }
 
 // 5A Connection identifier.
-#[derive(Drop)]
+#[derive(Clone, Copy)]
 pub struct Connection {
     pub vpci: u16,
     pub vci: u16,

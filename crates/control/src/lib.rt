@@ -8,6 +8,8 @@
 // What they answer is outcome's `Answer` and `Started`.
 // No event has a `requires`: what is wrong with its input is refused by its number. A reply fills the front of the lent
 // room; octets behind it are unchanged. Assumes nothing.
+#![tactic(auto)]
+
 ghost use Rattle.std.specs.Prelude.{◌≡◌, ◌≤◌, length};
 ghost use Rattle.calls.specs.Timers.{largest_reading};
 ghost use Rattle.octets.specs.Octets.{front};

@@ -62,7 +62,7 @@ fn are_digits(line: &[u8]) -> bool
 }
 
 // `Empty` is the message of no octets, written `-`.
-#[derive(Drop)]
+#[derive(Clone, Copy)]
 pub(crate) enum Kind {
     Skipped,
     Empty,

@@ -4,6 +4,8 @@
 //   found       prints what is found of each element
 // All that is printed of a message, but for which step ignores it, comes from `header`, `elements`, `traffic` and `setup`.
 // Proved: safe and ending; lines and octets exact. The table has under 65,536 characters. Assumes nothing of its own.
+#![tactic(auto)]
+
 mod found;
 mod hex;
 

@@ -7,3 +7,5 @@
 // They cite crates safety, readback and independence, and of this one proofs/Sent.antt:
 //   every_reply_reads_back, every_reply_is_octets, every_reply_is_short
 // The statements are in specs/Demands.antt and specs/Sent.antt. Assumes nothing.
+#![tactic(auto)]
+

@@ -3,6 +3,8 @@
 //   put_answer      the answer line
 //   put_words       the line for people behind it
 // Each writer writes at a place of a lent buffer, asks for room there, and answers the place behind. Assumes nothing.
+#![tactic(auto)]
+
 ghost use Rattle.std.specs.Prelude.{◌+◌, ◌*◌, ◌≤◌, ◌≡◌, length};
 ghost use Rattle.octets.specs.Octets.{Wrote};
 ghost use Rattle.display.specs.Display.{asked_of, Inside, numbers_text, extent_text, answer_text, words_text};
@@ -10,7 +12,7 @@ ghost use Rattle.display.specs.Display.{asked_of, Inside, numbers_text, extent_t
 use shown::Extent;
 
 // A line that asks something else, or one whose MESSAGE stands from place 6 up to a place and whose RECORD stands behind that.
-#[derive(Drop)]
+#[derive(Clone, Copy)]
 pub enum Asked {
     Other,
     Words(usize),

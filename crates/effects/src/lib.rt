@@ -7,6 +7,8 @@
 //   flag_slot              the flag of a slot, where a change has a notice
 //   global_after, out_after    what the end of a RESTART makes of ours, and of the pairs out of service
 // Nothing has a `requires`. Assumes nothing.
+#![tactic(auto)]
+
 ghost use Rattle.std.specs.Prelude.{◌≡◌};
 ghost use Rattle.effects.specs.Change.{global_ended, out_ended, flagged};
 ghost use Rattle.effects.specs.Effect.{fated, replying, quiet, on_call, assigned};
@@ -19,7 +21,7 @@ use slots::Flags;
 use verdicts::{Fate, Verdict};
 
 // Why calls and doubts end: a user's RESTART, the acknowledge of ours, or T316 that ran out a second time.
-#[derive(Drop)]
+#[derive(Clone, Copy)]
 pub enum Ending {
     User,
     Acknowledged,
@@ -27,7 +29,7 @@ pub enum Ending {
 }
 
 // What becomes of the slots, of the pairs in doubt and out of service, and of our RESTART.
-#[derive(Drop)]
+#[derive(Clone, Copy)]
 pub enum Change {
     Keep,
     // The slot with this number becomes this, and this notice names it (0: none does).
@@ -43,7 +45,7 @@ pub enum Change {
 }
 
 // What an event does. What it sends carries this flag and call reference.
-#[derive(Drop)]
+#[derive(Clone, Copy)]
 pub struct Effect {
     pub change: Change,
     pub flag: bool,

@@ -4,6 +4,8 @@
 //                                 `ConnectionRead`, `BearerRead`, `RestartRead`; of 59, crate `traffic` asks the contents
 // `m` is any octets, and `from` the place of the first element: 9 in a message, 0 in an offer's body.
 // Nothing has a `requires`. Assumes nothing.
+#![tactic(auto)]
+
 ghost use Rattle.std.specs.Prelude.{◌≡◌, length};
 ghost use Rattle.elements.specs.Elements.{action_fits, look_for, Within};
 ghost use Rattle.elements.specs.Values.{cause_in, call_state_in, connection_in, bearer_in, restart_in};
@@ -28,7 +30,7 @@ pub fn action_fits(id: u8, action: u8) -> bool
 }
 
 // What is found of an identifier; readable contents are the octets from a start up to an end.
-#[derive(Drop)]
+#[derive(Clone, Copy)]
 pub enum Look {
     Absent,
     Unreadable,
@@ -55,7 +57,7 @@ pub fn look_for(m: &[u8], from: usize, id: u8) -> Look
 }
 
 // 08 Cause.
-#[derive(Drop)]
+#[derive(Clone, Copy)]
 pub enum CauseRead {
     Absent,
     Unreadable,
@@ -73,7 +75,7 @@ pub fn cause(m: &[u8], from: usize) -> CauseRead
 }
 
 // 14 Call state.
-#[derive(Drop)]
+#[derive(Clone, Copy)]
 pub enum CallStateRead {
     Absent,
     Unreadable,
@@ -91,7 +93,7 @@ pub fn call_state(m: &[u8], from: usize) -> CallStateRead
 }
 
 // 5A Connection identifier: VPCI and VCI.
-#[derive(Drop)]
+#[derive(Clone, Copy)]
 pub enum ConnectionRead {
     Absent,
     Unreadable,
@@ -112,7 +114,7 @@ pub fn connection(m: &[u8], from: usize) -> ConnectionRead
 }
 
 // 5E Bearer capability.
-#[derive(Drop)]
+#[derive(Clone, Copy)]
 pub enum BearerRead {
     Absent,
     Unreadable,
@@ -136,7 +138,7 @@ pub fn bearer(m: &[u8], from: usize) -> BearerRead
 }
 
 // 79 Restart indicator: its class.
-#[derive(Drop)]
+#[derive(Clone, Copy)]
 pub enum RestartRead {
     Absent,
     Unreadable,

@@ -5,7 +5,7 @@ ghost use Rattle.std.specs.Prelude.{◌+◌, ◌≤◌, length};
 ghost use Rattle.exchange.specs.Chunk.{Held};
 
 // The octets up to `whole` are whole lines, those up to `end` were read. `open`: the input may go on.
-#[derive(Drop)]
+#[derive(Clone, Copy)]
 pub(crate) struct Chunk {
     pub(crate) whole: usize,
     pub(crate) end: usize,

@@ -4,6 +4,8 @@
 //   store, keep                a save
 //   open, begin, restore       a start, a reload
 //   take, serve, run           a line, whole lines, all of the script
+#![tactic(auto)]
+
 mod lines;
 mod number;
 mod texts;
@@ -21,7 +23,7 @@ use table::Table;
 const PATTERN: u8 = 0xA5;
 
 // The table, if a start or a reload was accepted (`live`); if answers are explained; how many octets of the output are filled.
-#[derive(Drop)]
+#[derive(Clone, Copy)]
 struct Desk {
     table: Table,
     live: bool,

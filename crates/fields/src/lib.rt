@@ -6,6 +6,8 @@
 //   put_hold                  the field of a slot
 //   put_request_field         the field of our RESTART
 // Each asks for room for the longest that it writes, and answers the place behind it. Assumes nothing.
+#![tactic(auto)]
+
 ghost use Rattle.std.specs.Prelude.{◌≡◌, cond, ◌∷◌, ◌+◌, ◌≤◌, length};
 ghost use Rattle.octets.specs.Octets.{Wrote};
 ghost use Rattle.fields.specs.Fields.{two, four, eight, field, range_octets, channel_octets, reference_octets, state_octets, call_octets, hold_field, named_octets, request_octets};

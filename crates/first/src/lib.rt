@@ -4,9 +4,11 @@
 //   proofs/Search.antt     for a loop that looks for it
 //   proofs/First.antt      what its place says of a change, and what a change leaves as it was
 // Assumes nothing.
+#![tactic(auto)]
+
 
 // The number of an element, or none.
-#[derive(Drop)]
+#[derive(Clone, Copy)]
 pub enum Found {
     Nothing,
     At(usize),

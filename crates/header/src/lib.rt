@@ -2,11 +2,13 @@
 //   Header, Head     what it says, and whether the header checks let the message pass
 //   read             the header of any octets
 // Nothing has a `requires`. Assumes nothing.
+#![tactic(auto)]
+
 ghost use Rattle.std.specs.Prelude.{◌≡◌, ◌+◌, ◌*◌, ◌%◌};
 ghost use Rattle.header.specs.Header.{head_of};
 
 // `whole`: the length field equals the number of octets after octet 9.
-#[derive(Drop)]
+#[derive(Clone, Copy)]
 pub struct Header {
     pub flag: bool,
     pub reference: u32,
@@ -14,7 +16,7 @@ pub struct Header {
     pub whole: bool,
 }
 
-#[derive(Drop)]
+#[derive(Clone, Copy)]
 pub enum Head {
     Ignored,
     Is(Header),

@@ -8,3 +8,5 @@
 //   proofs/Steps.antt        one event
 //   proofs/History.antt      lists of events
 // Assumes nothing.
+#![tactic(auto)]
+

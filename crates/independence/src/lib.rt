@@ -9,3 +9,5 @@
 //   proofs/Independence.antt    the demand, proved
 //   proofs/Leaning.antt         these lists, proved
 // Assumes nothing.
+#![tactic(auto)]
+

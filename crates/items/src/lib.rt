@@ -4,12 +4,14 @@
 //   whole                  are the octets a whole number of elements?
 // `m` is any octets, and `from` the place of the first element: 9 in a message, 0 in an offer's body.
 // Nothing has a `requires`. Assumes nothing.
+#![tactic(auto)]
+
 ghost use Rattle.std.specs.Prelude.{◌≡◌, ◌≤◌, cond, eqb};
 ghost use Rattle.items.specs.Items.{item_at, items, first_of, count_of, whole_from};
 
 // What stands at a place: fewer than four octets, an element that overruns (its identifier),
 // or a whole one: its identifier, its octet 2, and the start and end of its contents.
-#[derive(Drop)]
+#[derive(Clone, Copy)]
 pub enum Item {
     End,
     Overrun(u8),

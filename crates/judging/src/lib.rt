@@ -5,6 +5,8 @@
 //   no_call_reply             the reply to a message on no call, other than SETUP
 //   global_reply              the reply to a message on the global reference, other than RESTART with flag 0
 // `judge` asks for a reading that is not refused. Assumes nothing.
+#![tactic(auto)]
+
 ghost use Rattle.std.specs.Prelude.{◌≡◌, ◌≤◌};
 ghost use Rattle.calls.specs.Timers.{largest_reading};
 ghost use Rattle.judging.specs.Class.{classify};
@@ -19,7 +21,7 @@ use replies::{Diagnostic, Reply};
 use verdicts::{Verdict, answered, because, ended, moved, plain_cause};
 
 // What a message is to a live call.
-#[derive(Drop)]
+#[derive(Clone, Copy)]
 pub enum Class {
     Ignored,
     Unknown,
@@ -27,7 +29,7 @@ pub enum Class {
     Expected(Kind),
 }
 
-#[derive(Drop)]
+#[derive(Clone, Copy)]
 pub enum Kind {
     CallProceeding,
     Connect,

@@ -3,6 +3,8 @@
 // clear, RELEASE COMPLETE) or 2 for one that ends at once (SETUP, RELEASE COMPLETE); how many calls stand beside it;
 // hundreds of lives; which lists it starts with (`lists_of`). Writes the lengths of all replies added up modulo
 // 1,000,000.
+#![tactic(auto)]
+
 ghost use Rattle.std.specs.Prelude.{◌≤◌, ◌<◌};
 
 use outcome::{Answer, Started};
@@ -20,7 +22,7 @@ const RELEASE: [u8; 15] = *b"\x09\x03\x00\x00\xC8\x4D\x80\x00\x06\x08\x80\x00\x0
 
 // Which ranges a table starts with: VPCI 0, 1 .., each with the VCIs from 32 to `last`. How many numbers of ranges, and
 // of permanent pairs, count.
-#[derive(Drop)]
+#[derive(Clone, Copy)]
 struct Lists {
     ranges: usize,
     last: u16,
@@ -78,7 +80,7 @@ fn started(lists: Lists) -> Started
 }
 
 // A table, and the lengths of the replies so far, added up modulo 1,000,000.
-#[derive(Drop)]
+#[derive(Clone, Copy)]
 struct Life {
     table: Table,
     sum: u64,

@@ -3,6 +3,8 @@
 //   bearer_fits, is_multipoint    5E Bearer capability
 //   digits_from, called_fits      70 Called number
 // Nothing has a `requires`. Assumes nothing.
+#![tactic(auto)]
+
 ghost use Rattle.std.specs.Prelude.{◌≡◌, drop};
 ghost use Rattle.mandatory.specs.Mandatory.{qos_fits, bearer_last, bearer_of_two, bearer_of_three, bearer_fits, multipoint, digits, called_fits};
 

@@ -5,6 +5,8 @@
 //   same      if two runs of octets are the same
 //   put       octets at a place of a room
 // `put` asks for room; nothing else has a `requires`. Assumes nothing.
+#![tactic(auto)]
+
 ghost use Rattle.std.specs.Prelude.{◌≡◌, ◌+◌, ◌≤◌, length, get_or};
 ghost use Rattle.octets.specs.Octets.{number, equal, Wrote};
 

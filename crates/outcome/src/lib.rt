@@ -4,6 +4,8 @@
 //   accept              the answer of an accepted event: its change is performed, its reading stored, its reply written
 // Only `accept` has a `requires`: a room of 1,024 octets, and a body of at most 512. It is no entry point; no event of control
 // has a `requires`. Assumes nothing.
+#![tactic(auto)]
+
 ghost use Rattle.std.specs.Prelude.{◌≡◌, ◌≤◌, length};
 ghost use Rattle.octets.specs.Octets.{front};
 ghost use Rattle.replies.specs.Reply.{reply_room, body_room};
@@ -14,7 +16,7 @@ use slots::Flags;
 use table::Table;
 
 // What an event answers, with the table afterwards. `more`: after a tick, whether another timer is due.
-#[derive(Drop)]
+#[derive(Clone, Copy)]
 pub struct Answer {
     pub table: Table,
     pub refusal: u8,
@@ -25,7 +27,7 @@ pub struct Answer {
 }
 
 // What start, or a reload, answers; with refusal 9 there is no table to use.
-#[derive(Drop)]
+#[derive(Clone, Copy)]
 pub struct Started {
     pub refusal: u8,
     pub table: Table,

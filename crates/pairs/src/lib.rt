@@ -7,6 +7,8 @@
 //   Pairs::with, without      one pair more, at its place; one pair less
 //   Pairs::unless_named       without the pairs that a RESTART names
 // Nothing here has a `requires`. Assumes nothing.
+#![tactic(auto)]
+
 ghost use Rattle.std.specs.Prelude.{◌≡◌, ◌≤◌};
 ghost use Rattle.pairs.specs.Pairs.{pair_number, is_number, room, no_pairs, size, is_full, in_pairs, with_pair, without_pair, unless_named};
 
@@ -15,7 +17,7 @@ use channels::Named;
 pub const ROOM: usize = 64;
 
 // The first `count` of the numbers are pairs, ascending; those behind them are 0.
-#[derive(Drop)]
+#[derive(Clone, Copy)]
 pub struct Pairs {
     pub count: usize,
     pub numbers: [u32; ROOM],

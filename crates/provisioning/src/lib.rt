@@ -10,13 +10,15 @@
 //   ranges_ok, pairs_ok          a list's length and all of it
 //   accepted_pool, pool_of       the pool of the lists, and the answer to start's lists
 // Nothing here has a `requires`. Assumes nothing.
+#![tactic(auto)]
+
 ghost use Rattle.std.specs.Prelude.{◌≡◌, ◌/◌, length};
 ghost use Rattle.provisioning.specs.Provisioning.{before, apart, range_at, single_at, entry_at, range_ok, fits, ascending, ranges_ok, pairs_ok, pool_of, refused, provision};
 
 use channels::{Channel, Entry, Pool, Range};
 
 // What start makes of its lists. A refused one has the empty pool.
-#[derive(Drop)]
+#[derive(Clone, Copy)]
 pub struct Provision {
     pub accepted: bool,
     pub pool: Pool,

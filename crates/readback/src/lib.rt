@@ -11,3 +11,5 @@
 //   proofs/Said.antt           what the controller's readers find in the octets of a message, and in each that we send
 //   proofs/Examples.antt       messages of document 01
 // Assumes nothing.
+#![tactic(auto)]
+

@@ -3,6 +3,8 @@
 //   table_of         the table, with a pool
 // Past the end stand zeros, and what is not a form reads as some table, whose form is another. Nothing public has a `requires`.
 // Assumes nothing.
+#![tactic(auto)]
+
 ghost use Rattle.std.specs.Prelude.{◌≡◌, ◌+◌, ◌≤◌, length, get_or, take, drop};
 ghost use Rattle.slots.specs.Slots.{slot_count};
 ghost use Rattle.provisioning.specs.Provisioning.{provision};
@@ -17,14 +19,14 @@ use slots::{SLOTS, Slots};
 use table::Table;
 
 // A list of start, in the front of an array.
-#[derive(Drop)]
+#[derive(Clone, Copy)]
 struct List {
     numbers: [u16; 16],
     n: usize,
 }
 
 // A slot, and the place behind its field.
-#[derive(Drop)]
+#[derive(Clone, Copy)]
 struct Step {
     slot: Slot,
     next: usize,

@@ -6,6 +6,8 @@
 //   body_refusal                        10; offer itself finds 11 and 12, where it looks for a slot and a pair
 //   restart_refusal                     1 to 4, and 13
 // Nothing has a `requires`. What a 0 says of the numbers is a second promise (`passed`), for those who go on. Assumes nothing.
+#![tactic(auto)]
+
 ghost use Rattle.std.specs.Prelude.{◌≡◌, true, ◌≤◌, ◌<◌, length};
 ghost use Rattle.calls.specs.Timers.{largest_reading};
 ghost use Rattle.replies.specs.Reply.{reply_room, body_room};

@@ -2,6 +2,8 @@
 //   reload     the table of a form, or refusal 9
 // It takes any octets: they are read with no question asked, the table that comes is held against the rules (`rules`), and its form is
 // written anew and must be the octets that came. So each table has one saved form. `reload` has no `requires`. Assumes nothing.
+#![tactic(auto)]
+
 ghost use Rattle.std.specs.Prelude.{◌≡◌};
 ghost use Rattle.octets.specs.Octets.{equal};
 ghost use Rattle.saved.specs.Form.{form_of};

@@ -3,3 +3,5 @@
 //   proofs/Commute.antt    how commutation is shown
 //   proofs/Reorder.antt    an order that keeps dependent messages in order changes no answer and no final state
 // Assumes nothing.
+#![tactic(auto)]
+

@@ -5,6 +5,8 @@
 //   send                                    what is sent: answers its length, 0 where there is nothing
 // `send` asks for a room of 1,024 octets, and for an offer's body of at most 512; octets behind the message are unchanged.
 // Assumes nothing.
+#![tactic(auto)]
+
 ghost use Rattle.std.specs.Prelude.{◌≡◌, false, cond, ◌+◌, ◌≤◌, ◌<◌, ◌∷◌, [], ◌++◌, length};
 ghost use Rattle.octets.specs.Octets.{high, low, Wrote, Fills, front};
 ghost use Rattle.replies.specs.Message.{header, element_octets, message, octets};
@@ -15,7 +17,7 @@ pub const REPLY_ROOM: usize = 1024;
 pub const BODY_ROOM: usize = 512;
 
 // Some of the four elements that SETUP must have: 59, 5C, 5E and 70.
-#[derive(Drop)]
+#[derive(Clone, Copy)]
 pub struct Mandatory {
     pub traffic: bool,
     pub qos: bool,
@@ -24,7 +26,7 @@ pub struct Mandatory {
 }
 
 // What a cause's diagnostic field says.
-#[derive(Drop)]
+#[derive(Clone, Copy)]
 pub enum Diagnostic {
     None,
     // A message type, or the identifier of an element.
@@ -37,13 +39,13 @@ pub enum Diagnostic {
 }
 
 // A cause number below 128, with its diagnostic.
-#[derive(Drop)]
+#[derive(Clone, Copy)]
 pub struct Cause {
     pub number: u8,
     pub diagnostic: Diagnostic,
 }
 
-#[derive(Drop)]
+#[derive(Clone, Copy)]
 pub enum Reply {
     None,
     // VPCI and VCI.
@@ -64,14 +66,14 @@ pub enum Reply {
 }
 
 // What an event sends: a reply, or SETUP with the Connection identifier of a VPCI and a VCI and then an offer's body.
-#[derive(Drop)]
+#[derive(Clone, Copy)]
 pub enum Outgoing {
     Reply(Reply),
     Setup(u16, u16),
 }
 
 // The octets of a diagnostic field, at most four, at the front of an array.
-#[derive(Drop)]
+#[derive(Clone, Copy)]
 struct Field {
     octets: [u8; 4],
     size: usize,

@@ -6,6 +6,8 @@
 //   expire           T316 runs out
 //   put_back         no pair is out of service
 // `request` and `expire` ask for a reading that is not refused, `named_by` for numbers of 16 bits. Assumes nothing.
+#![tactic(auto)]
+
 ghost use Rattle.std.specs.Prelude.{◌≡◌, ◌||◌, ◌≤◌, ltb};
 ghost use Rattle.channels.specs.Channels.{permanent};
 ghost use Rattle.calls.specs.Timers.{largest_reading};
@@ -96,7 +98,7 @@ pub fn restart(state: u8, pool: Pool, m: &[u8]) -> Effect
 }
 
 // What the host wants restarted: all pairs, or the one of a VPCI and a VCI.
-#[derive(Drop)]
+#[derive(Clone, Copy)]
 pub enum Target {
     All,
     One(u64, u64),

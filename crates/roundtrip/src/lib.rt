@@ -9,3 +9,5 @@
 //   proofs/Kept.antt           a sound table keeps the rules
 //   proofs/Roundtrip.antt      the statement, proved
 // Assumes nothing.
+#![tactic(auto)]
+

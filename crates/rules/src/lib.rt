@@ -2,6 +2,8 @@
 //   is_kept      each call: its reference, pair, state, timer, side and cause, and that no other call has its pair or reference;
 //                the pairs in doubt and those out of service; our RESTART
 // `is_kept` asks for a last reading that is not refused. Assumes nothing.
+#![tactic(auto)]
+
 ghost use Rattle.std.specs.Prelude.{◌≡◌, ◌≤◌};
 ghost use Rattle.channels.specs.Some.{some_of};
 ghost use Rattle.pairs.specs.Pairs.{listed, ascending};

@@ -12,3 +12,5 @@
 //   proofs/Acts.antt            what an event does to the slots, nine ways, off which proofs/Flags.antt and proofs/Gone.antt read
 //   proofs/Sound.antt           `reached_sound`, from which saving and reading back start; proofs/References.antt the width of a reference
 // Assumes nothing.
+#![tactic(auto)]
+

@@ -4,6 +4,8 @@
 //   put_form     the form at a place of a room
 //   save         the form at the front of a room
 // `put_form` asks for room; nothing else public has a `requires`. Assumes nothing.
+#![tactic(auto)]
+
 ghost use Rattle.std.specs.Prelude.{◌≡◌, cond, ◌+◌, ◌≤◌, length};
 ghost use Rattle.octets.specs.Octets.{Wrote, front};
 ghost use Rattle.pairs.specs.Pairs.{listed};
@@ -20,7 +22,7 @@ use table::Table;
 pub const LONGEST: usize = 1312;
 
 // What saving answers: refusal 0 and the length of the form, or refusal 1.
-#[derive(Drop)]
+#[derive(Clone, Copy)]
 pub struct Saved {
     pub refusal: u8,
     pub length: usize,

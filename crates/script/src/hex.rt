@@ -4,7 +4,7 @@ ghost use Rattle.octets.specs.Octets.{front};
 ghost use Rattle.script.specs.Hex.{hex_digit, hex_pair, hex_octets, decoded, octets_read, octets_stored, Fits};
 
 // How many octets were read, or none.
-#[derive(Drop)]
+#[derive(Clone, Copy)]
 pub enum Octets {
     Bad,
     Are(usize),

@@ -7,6 +7,8 @@
 //   read_lists             a line that begins with `start`
 //   place_of               the first place of an octet from a place on
 // Assumes nothing.
+#![tactic(auto)]
+
 mod decimal;
 mod hex;
 mod start;
@@ -24,7 +26,7 @@ pub use words::place_of;
 use words::{Field, Kind, Which, Word};
 
 // What each event on a table carries. `room`: how many octets of reply room are lent.
-#[derive(Drop)]
+#[derive(Clone, Copy)]
 pub struct Clock {
     pub label: u64,
     pub reading: u64,
@@ -32,7 +34,7 @@ pub struct Clock {
 }
 
 // What an event asks. Message and offer say how many octets came.
-#[derive(Drop)]
+#[derive(Clone, Copy)]
 pub enum Request {
     Tick,
     Message(usize),
@@ -46,7 +48,7 @@ pub enum Request {
 }
 
 // What a line asks. Save says how many octets of room are lent, reload how many came.
-#[derive(Drop)]
+#[derive(Clone, Copy)]
 pub enum Line {
     Bad,
     Start,
@@ -56,7 +58,7 @@ pub enum Line {
 }
 
 // A clock, and the place behind it.
-#[derive(Drop)]
+#[derive(Clone, Copy)]
 enum Timed {
     Bad,
     Is(Clock, usize),

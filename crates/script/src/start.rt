@@ -6,14 +6,14 @@ use crate::words;
 use crate::words::Field;
 
 // At most 64 numbers.
-#[derive(Drop)]
+#[derive(Clone, Copy)]
 pub struct List {
     pub n: usize,
     pub numbers: [u16; 64],
 }
 
 // Range numbers and pair numbers; nothing is said by them if the line is not good.
-#[derive(Drop)]
+#[derive(Clone, Copy)]
 pub struct Lists {
     pub good: bool,
     pub ranges: List,
@@ -21,7 +21,7 @@ pub struct Lists {
 }
 
 // A list, and the place behind it.
-#[derive(Drop)]
+#[derive(Clone, Copy)]
 struct Listed {
     good: bool,
     end: usize,

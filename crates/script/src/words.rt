@@ -6,7 +6,7 @@ use crate::decimal;
 use crate::decimal::Number;
 
 // The word that a line begins with.
-#[derive(Drop)]
+#[derive(Clone, Copy)]
 pub enum Word {
     Unknown,
     Start,
@@ -16,7 +16,7 @@ pub enum Word {
 }
 
 // The events on a table.
-#[derive(Drop)]
+#[derive(Clone, Copy)]
 pub enum Kind {
     Message,
     Tick,
@@ -28,7 +28,7 @@ pub enum Kind {
 }
 
 // What `restart` names.
-#[derive(Drop)]
+#[derive(Clone, Copy)]
 pub enum Which {
     Unknown,
     All,
@@ -36,7 +36,7 @@ pub enum Which {
 }
 
 // A number and the place behind it, or none.
-#[derive(Drop)]
+#[derive(Clone, Copy)]
 pub enum Field {
     Bad,
     Is(u64, usize),

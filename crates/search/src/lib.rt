@@ -8,6 +8,8 @@
 // One mark stands for one of the NEAR first VCIs of a range: if its pair is taken. Those of range k begin at k times NEAR.
 // `find_free` has no `requires`; the others ask for room for all marks, and for a count that is not near its end.
 // Assumes nothing.
+#![tactic(auto)]
+
 ghost use Rattle.std.specs.Prelude.{◌≡◌, ◌&&◌, ◌+◌, ◌*◌, ◌≤◌, ◌<◌, eqb, length};
 ghost use Rattle.channels.specs.Some.{some_of};
 ghost use Rattle.channels.specs.Channels.{range_count, is_pair, among};
@@ -30,7 +32,7 @@ const NEAR: usize = 170;
 const MARKS: usize = 680;
 
 // The lowest free pair, and how many pairs were read to find it.
-#[derive(Drop)]
+#[derive(Clone, Copy)]
 pub struct Finding {
     pub found: Channel,
     pub reads: u32,

@@ -9,6 +9,8 @@
 //   OutOfService::with              the pairs that are named are marked too
 //   is_all_taken                    if no pair at all is free, whatever else is so
 // Nothing here has a `requires`. Assumes nothing.
+#![tactic(auto)]
+
 ghost use Rattle.std.specs.Prelude.{◌≡◌};
 ghost use Rattle.service.specs.Service.{global_number, global_due, is_waiting, none_out, has_room, with_out, is_all_taken};
 
@@ -19,19 +21,19 @@ use pairs::Pairs;
 pub const T316: u64 = 120000;
 
 // In Restart Request a RESTART of ours is under way: the pairs that it names, if T316 runs a second time, and T316's deadline.
-#[derive(Drop)]
+#[derive(Clone, Copy)]
 pub enum GlobalState {
     Null,
     RestartRequest(Named, bool, u64),
 }
 
-#[derive(Drop)]
+#[derive(Clone, Copy)]
 pub struct Global {
     pub state: GlobalState,
 }
 
 // The pairs out of service: all of them, and at most 64 single ones.
-#[derive(Drop)]
+#[derive(Clone, Copy)]
 pub struct OutOfService {
     pub all: bool,
     pub pairs: Pairs,

@@ -3,6 +3,8 @@
 //   admit            what a SETUP's elements are refused for, before the table is asked
 //   offer_fits       whether octets are an offer's body, their number apart
 // Nothing has a `requires`. Assumes nothing.
+#![tactic(auto)]
+
 ghost use Rattle.std.specs.Prelude.{◌≡◌, length};
 ghost use Rattle.elements.specs.Elements.{Within};
 ghost use Rattle.setup.specs.Setup.{absent, broken, found_in, chosen, some_named, multipoint_in, allowed_in, refused, refused_for, admission};
@@ -11,7 +13,7 @@ ghost use Rattle.setup.specs.Offer.{counted, is_admitted, offer_fits};
 use elements::Look;
 use replies::{Cause, Diagnostic, Mandatory};
 
-#[derive(Drop)]
+#[derive(Clone, Copy)]
 pub enum Admission {
     Admitted,
     Refused(Cause),
@@ -38,7 +40,7 @@ fn is_broken(look: Look) -> bool
 }
 
 // What is found of 59, 5C, 5E and 70.
-#[derive(Drop)]
+#[derive(Clone, Copy)]
 struct Mandated {
     traffic: Look,
     qos: Look,

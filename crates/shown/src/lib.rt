@@ -6,6 +6,8 @@
 //   Extent, locate                          which of the two is shown, where the part begins and how long it is
 //   shown                                   that part itself
 // `m` and `subscription` are any octets. Nothing is written, nothing is copied, nothing has a `requires`. Assumes nothing.
+#![tactic(auto)]
+
 ghost use Rattle.std.specs.Prelude.{◌≡◌, ◌∷◌, length};
 ghost use Rattle.mandatory.specs.Mandatory.{called_fits};
 ghost use Rattle.header.specs.Header.{head_of};
@@ -93,7 +95,7 @@ fn number(m: &[u8]) -> Item
 }
 
 // What a message shows of its calling number: nothing to go by, or so many octets of the message from a place on.
-#[derive(Drop)]
+#[derive(Clone, Copy)]
 enum Found {
     Nothing,
     Address(usize, usize),
@@ -127,7 +129,7 @@ fn calling(m: &[u8]) -> Found
 }
 
 // Which of the two is shown: the message or the record, so many octets of it from a place on.
-#[derive(Drop)]
+#[derive(Clone, Copy)]
 pub enum Extent {
     Message(usize, usize),
     Record(usize, usize),

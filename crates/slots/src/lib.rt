@@ -12,6 +12,8 @@
 //   Slots::without, named, any_named   the calls on named pairs go; their flags; if there is one
 //   Slots::fresh, Flags::none, only
 // Nothing here has a `requires`. Assumes nothing.
+#![tactic(auto)]
+
 ghost use Rattle.std.specs.Prelude.{◌≡◌, true, false, map, ◌≤◌, ◌<◌, ◌+◌, set, replicate};
 ghost use Rattle.channels.specs.Some.{some_of};
 ghost use Rattle.calls.specs.Calls.{no_slot, is_empty, is_call, is_named, emptied};
@@ -28,27 +30,27 @@ pub const SLOTS: usize = 32;
 // Of so many references one is in no use: there is one more than there are slots.
 const SPARE: u32 = 33;
 
-#[derive(Drop)]
+#[derive(Clone, Copy)]
 pub struct Slots {
     pub all: [Slot; SLOTS],
 }
 
 // A slot with its number, or none.
-#[derive(Drop)]
+#[derive(Clone, Copy)]
 pub enum Spot {
     Nothing,
     At(usize, Slot),
 }
 
 // The number of a slot, its deadline, and if another slot is due; or none is due.
-#[derive(Drop)]
+#[derive(Clone, Copy)]
 pub enum Soonest {
     Nothing,
     Timer(usize, u64, bool),
 }
 
 // One flag for each slot.
-#[derive(Drop)]
+#[derive(Clone, Copy)]
 pub struct Flags {
     pub on: [bool; SLOTS],
 }

@@ -6,6 +6,8 @@
 //   Table::heard             a message that passed the header checks
 //   Fired, Table::fire       the timer that a tick fires, and if another is due
 // `heard` and `fire` ask for a reading that is not refused. Assumes nothing.
+#![tactic(auto)]
+
 ghost use Rattle.std.specs.Prelude.{◌≡◌, true, ◌&&◌, ◌||◌, not, ◌≤◌, eqb};
 ghost use Rattle.calls.specs.Calls.{is_empty};
 ghost use Rattle.calls.specs.Timers.{largest_reading};
@@ -31,7 +33,7 @@ use slots::{Flags, Slots, Soonest, Spot};
 
 // The table: the slots of calls, the last accepted reading, the pairs in doubt, the state of the global call reference, the pairs
 // out of service, and the pool of channels.
-#[derive(Drop)]
+#[derive(Clone, Copy)]
 pub struct Table {
     pub slots: Slots,
     pub last: u64,
@@ -42,7 +44,7 @@ pub struct Table {
 }
 
 // What a tick does, and if another timer is due afterwards.
-#[derive(Drop)]
+#[derive(Clone, Copy)]
 pub struct Fired {
     pub effect: Effect,
     pub more: bool,

@@ -5,11 +5,13 @@
 //   traffic_fits      are the contents readable?
 //   traffic_allowed   does the traffic rule allow it?
 // Assumes nothing.
+#![tactic(auto)]
+
 ghost use Rattle.std.specs.Prelude.{◌≡◌};
 ghost use Rattle.traffic.specs.Traffic.{span, subfield_at, subfields, identifiers, traffic_fits, has_subfield, with_best_effort, any_other, traffic_allowed, member};
 
 // What stands at a place: nothing more, a subfield that is not listed or cut, or one with its identifier and the place behind it.
-#[derive(Drop)]
+#[derive(Clone, Copy)]
 pub enum Subfield {
     End,
     Broken,

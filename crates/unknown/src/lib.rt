@@ -4,6 +4,8 @@
 //   Skipped, skipped           the identifiers of the first 8 unknown ones
 // `m` is any octets, and `from` the place of the first element: 9 in a message.
 // Nothing public has a `requires`. Assumes nothing.
+#![tactic(auto)]
+
 ghost use Rattle.std.specs.Prelude.{◌≡◌};
 ghost use Rattle.items.specs.Items.{items};
 ghost use Rattle.unknown.specs.Unknown.{known, first_unknown, unknown_in, from_first, told, gathered, skipped_of};
@@ -21,14 +23,14 @@ const MOST_TOLD: usize = 8;
 
 // An unknown element: there is none, or its identifier, the place where it stands, and the place behind it (the end of
 // the octets where it overruns them).
-#[derive(Drop)]
+#[derive(Clone, Copy)]
 pub enum Unknown {
     None,
     At(u8, usize, usize),
 }
 
 // The identifiers of elements that were skipped: the first `count` of these eight.
-#[derive(Drop)]
+#[derive(Clone, Copy)]
 pub struct Skipped {
     pub count: u8,
     pub first: u8,
@@ -42,7 +44,7 @@ pub struct Skipped {
 }
 
 // Identifiers at the front of an array, and how many they are.
-#[derive(Drop)]
+#[derive(Clone, Copy)]
 struct Gathered {
     identifiers: [u8; 8],
     count: usize,

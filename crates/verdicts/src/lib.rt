@@ -4,6 +4,8 @@
 //   answered, moved, ended    the call stays; it goes to another state; it is gone
 //   release, expire           RELEASE is sent, and T308 runs; a timer fires
 // `release` and `expire` ask for a reading that is not refused. Assumes nothing.
+#![tactic(auto)]
+
 ghost use Rattle.std.specs.Prelude.{◌≡◌, ◌≤◌};
 ghost use Rattle.calls.specs.Timers.{largest_reading};
 ghost use Rattle.verdicts.specs.Verdict.{because, plain_cause, answered, moved, ended, lost};
@@ -13,7 +15,7 @@ use calls::{Clearing, State, T308};
 use replies::{Cause, Diagnostic, Reply};
 
 // What becomes of a call. `To`: it goes to a state, with this notice. `InDoubt`: it is gone, and its pair is in doubt.
-#[derive(Drop)]
+#[derive(Clone, Copy)]
 pub enum Fate {
     Stay,
     To(State, u8),
@@ -21,7 +23,7 @@ pub enum Fate {
     InDoubt,
 }
 
-#[derive(Drop)]
+#[derive(Clone, Copy)]
 pub struct Verdict {
     pub fate: Fate,
     pub reply: Reply,

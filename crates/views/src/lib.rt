@@ -5,3 +5,5 @@
 //   proofs/View.antt       everything that an event can decide
 // A request that adds an event, a message or a fate edits the views; what is proved of all events asks the views.
 // Assumes nothing.
+#![tactic(auto)]
+
