@@ -6,7 +6,6 @@
 // Assumes nothing.
 #![tactic(auto)]
 
-
 // The number of an element, or none.
 #[derive(Clone, Copy)]
 pub enum Found {

@@ -1,0 +1,17 @@
+-- `Pairs::without` meets its contract. The loop's invariant: the pairs passed that stay are in front, and the pair is to be taken out of what is left.
+-- Assumes nothing.
+use borrow.Author.Rules.{rules}
+use Prim.Native.Nat.{◌≤◌, ◌-◌, ◌+◌}
+use native.Mathlib.Omega.{arith}
+use mathlib.Core.Path.{◌≡◌, refl, sym, ap, ◌∙◌}
+use mathlib.Core.List.{◌++◌}
+use lib.ListN.{length, take, drop, get_or}
+use Rattle.pairs.specs.Pairs.{listed, packed, removed}
+use Rattle.pairs.proofs.Places.{Span, span-size, listed_next, Filled, filled_none, filled_more, filled_all, removed_here, removed_past, removed_last}
+use Rattle.pairs.proofs.Pairs.without.Given as goal
+
+abbrev pub invariant-loop-i : goal.invariant-loop-i
+invariant-loop-i l = (l.i ≤ l.n) × Span l.self l.n × (l.kept ≤ l.i) × Filled l.numbers l.kept × (removed l.vpci l.vci (listed l.self) ≡ take l.kept l.numbers ++ removed l.vpci l.vci (drop l.i (listed l.self)))
+
+abbrev pub decreases-loop-i : goal.decreases-loop-i
+decreases-loop-i l = l.n - l.i
