@@ -72,6 +72,7 @@ in_upto i zero q a b = absurd (omega arith)
 in_upto i (suc n) q a b = ⊎_elim (λ e. here (sym e)) (λ l. there (in_upto (suc i) n q l (omega arith))) (eq-or-lt_of_le a)
 
 pub of_upto : (i n q : ℕ) → Mem q (upto i n) → (i ≤ q) × (q < i + n)
+of_upto i zero q x' = elim x' [ ]
 of_upto i (suc n) q (here e) = omega arith
 of_upto i (suc n) q (there m) = omega (arith, of_upto (suc i) n q m)
 
@@ -94,9 +95,12 @@ module _ {A : Type 0} (f : ℕ → A) (a : A) where
   read-map (p ∷ ps) zero h = refl
   read-map (p ∷ ps) (suc k) h = read-map ps k (omega arith)
 
+at_each : (P : ℕ → Type 0) (q : ℕ) (ps : List ℕ) → ((k : ℕ) → k < length ps → P (get_or ps k 0)) → Mem q ps → P q
+at_each P q ps h (here e) = rw e (h 0 (omega arith))
+at_each P q ps h (there {xs = qs} m) = at_each P q qs (λ k l. h (suc k) (omega arith)) m
+
 pub every : (P : ℕ → Type 0) (ps : List ℕ) → ((k : ℕ) → k < length ps → P (get_or ps k 0)) → (q : ℕ) → Mem q ps → P q
-every P ps h q (here e) = rw e (h 0 (omega arith))
-every P ps h q (there {xs = qs} m) = every P qs (λ k l. h (suc k) (omega arith)) q m
+every P ps h q m = at_each P q ps h m
 
 pub spread : (R : ℕ → ℕ → Type 0) (ps : List ℕ) → ((k l : ℕ) → k < l → l < length ps → R (get_or ps k 0) (get_or ps l 0)) → Spread R ps
 spread R [] h = none

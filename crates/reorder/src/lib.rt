@@ -4,4 +4,3 @@
 //   proofs/Reorder.antt    an order that keeps dependent messages in order changes no answer and no final state
 // Assumes nothing.
 #![tactic(auto)]
-

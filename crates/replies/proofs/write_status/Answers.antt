@@ -1,0 +1,23 @@
+-- `replies::write_status` meets its contract: a header, whose length field counts the diagnostic, and two elements.
+-- Assumes nothing.
+use borrow.Author.Rules.{rules}
+use native.Mathlib.Omega.{arith}
+use mathlib.Core.List.{[], ◌∷◌}
+use Prim.Native.Nat.{◌+◌}
+use mathlib.Core.Path.{◌≡◌, sym, ap, ◌∙◌}
+use lib.ListN.{length}
+use Rattle.octets.proofs.Stores.{chain, wrote_none}
+use Rattle.replies.proofs.Sizes.{field-size}
+use Rattle.replies.proofs.Whole.{body-size, whole}
+use Rattle.replies.specs.Message.{body}
+use Rattle.replies.specs.Reply.{call_state, cause}
+use Rattle.replies.proofs.write_status.Goals as goal
+
+pub returns : goal.returns
+returns c = let many = sym (ap length c.diagnostic_field-field.ensures.result_value) ∙ field-size c.diagnostic_field-field.result (search rules) c.diagnostic_field-field.ensures.size_bound in
+    let es = call_state c.args.state ∷ cause c.args.why ∷ [] in
+    let size : length (body es) ≡ 11 + c.diagnostic_field-field.result.size =
+    rw (body-size (call_state c.args.state) (cause c.args.why ∷ []), body-size (cause c.args.why) []) (omega arith)
+    in
+    whole c.args.flag c.args.reference 0x7D (11 + c.diagnostic_field-field.result.size) es size (omega arith)
+    (chain c.put_header-first.ensures (chain c.put_short-second.ensures (chain c.put_cause.ensures (wrote_none _ _))))
