@@ -1,12 +1,10 @@
 -- `Pairs::has` meets its contract. The loop's invariant: some pair passes if and only if one of those left does.
 use borrow.Author.Rules.{rules}
-use Prim.Native.Nat.{◌≤◌, ◌-◌}
 use native.Mathlib.Omega.{arith}
 use mathlib.Core.Path.{◌≡◌, refl, sym, ◌∙◌}
-use lib.ListN.{length, drop, drop_of_length-le}
-use Rattle.channels.specs.Some.{some_of}
-use Rattle.pairs.specs.Pairs.{listed, is_number}
-use Rattle.pairs.proofs.Places.{Span, span-size, listed_next}
+use lib.ListN.{length, drop_of_length-le}
+use Rattle.pairs.specs.Pairs.{listed}
+use Rattle.pairs.proofs.Places.{span-size, listed_next}
 use Rattle.pairs.proofs.Pairs.has.Goals as goal
 
 pub loop-i-init : goal.loop-i-init
@@ -18,10 +16,10 @@ returns-then-is_number c = sym (c.loop-i.invariant.2 ∙ rw (listed_next c.args.
 
 pub loop-i-preserved : goal.loop-i-preserved
 loop-i-preserved c = (
-      search rules,
-      search rules,
-      c.loop-i.invariant.2 ∙ rw (listed_next c.args.self _ c.loop-i.i c.loop-i.invariant.1 (omega arith), sym c.is_number.ensures ∙ c.if-is_number.false),
-    )
+  search rules,
+  search rules,
+  c.loop-i.invariant.2 ∙ rw (listed_next c.args.self _ c.loop-i.i c.loop-i.invariant.1 (omega arith), sym c.is_number.ensures ∙ c.if-is_number.false),
+)
 
 pub returns : goal.returns
 returns c = sym (c.loop-i.invariant.2 ∙ rw (drop_of_length-le (listed c.args.self) {i = c.loop-i.i} (omega arith)))

@@ -1,13 +1,11 @@
 -- `Pairs::has` meets its contract. The loop's invariant: some pair passes if and only if one of those left does.
 -- Assumes nothing.
-use borrow.Author.Rules.{rules}
 use Prim.Native.Nat.{◌≤◌, ◌-◌}
-use native.Mathlib.Omega.{arith}
-use mathlib.Core.Path.{◌≡◌, refl, sym, ◌∙◌}
-use lib.ListN.{length, drop, drop_of_length-le}
+use mathlib.Core.Path.{◌≡◌}
+use lib.ListN.{drop}
 use Rattle.channels.specs.Some.{some_of}
 use Rattle.pairs.specs.Pairs.{listed, is_number}
-use Rattle.pairs.proofs.Places.{Span, span-size, listed_next}
+use Rattle.pairs.proofs.Places.{Span}
 use Rattle.pairs.proofs.Pairs.has.Given as goal
 
 abbrev pub invariant-loop-i : goal.invariant-loop-i

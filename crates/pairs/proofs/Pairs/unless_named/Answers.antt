@@ -1,6 +1,5 @@
 -- `Pairs::unless_named` meets its contract: by what is named, and what its function ensures.
 -- Assumes nothing.
-use borrow.Author.Rules.{rules}
 use Rattle.pairs.proofs.Pairs.unless_named.Goals as goal
 
 pub returns-in-Pair : goal.returns-in-Pair

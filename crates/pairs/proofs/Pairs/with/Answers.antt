@@ -1,13 +1,12 @@
 -- `Pairs::with` meets its contract. The loop's invariant: the pairs passed and the carried one stand at their place in front, and the carried one is to be
 use borrow.Author.Rules.{rules}
-use Prim.Native.Nat.{◌≤◌, ◌<◌, ◌-◌, ◌+◌}
+use Prim.Native.Nat.{◌<◌, ◌+◌}
 use native.Mathlib.Omega.{arith}
 use mathlib.Core.Path.{◌≡◌, sym, ap, ◌∙◌}
-use mathlib.Core.List.{◌++◌}
-use lib.ListN.{length, take, drop, get_or, set}
+use lib.ListN.{length, drop, get_or, set}
 use borrow.Author.Tests.{leb-false}
-use Rattle.pairs.specs.Pairs.{room, pair_number, listed, packed, inserted}
-use Rattle.pairs.proofs.Places.{Span, span_count, listed_next, Filled, filled_none, filled_more, filled_all, inserted_past, inserted_here, inserted_last}
+use Rattle.pairs.specs.Pairs.{pair_number, listed, packed, inserted}
+use Rattle.pairs.proofs.Places.{span_count, listed_next, filled_none, filled_more, filled_all, inserted_past, inserted_here, inserted_last}
 use Rattle.pairs.proofs.Pairs.with.Goals as goal
 
 pub returns-then-is_full : goal.returns-then-is_full
@@ -20,25 +19,25 @@ loop-i-init c = let l : length c.args.self.numbers ≡ 64 = search rules in
 
 pub loop-i-preserved-then-next-carried : goal.loop-i-preserved-then-next-carried
 loop-i-preserved-then-next-carried c = (
-      search rules,
-      c.loop-i.invariant.1,
-      c.loop-i.invariant.2,
-      filled_more c.loop-i.numbers c.loop-i.i (get_or c.args.self.numbers c.loop-i.i 0) (omega arith) c.loop-i.invariant.3,
-      inserted_past (inserted (pair_number c.args.vpci c.args.vci) (listed c.args.self)) c.loop-i.numbers (drop c.loop-i.i (listed c.args.self)) c.loop-i.i
-          (get_or c.args.self.numbers c.loop-i.i 0) c.loop-i.carried (drop (c.loop-i.i + 1) (listed c.args.self)) (omega arith)
-          (listed_next c.args.self c.args.self.count c.loop-i.i c.loop-i.invariant.1 (omega arith)) c.if-next-carried.true c.loop-i.invariant.4,
-    )
+  search rules,
+  c.loop-i.invariant.1,
+  c.loop-i.invariant.2,
+  filled_more c.loop-i.numbers c.loop-i.i (get_or c.args.self.numbers c.loop-i.i 0) (omega arith) c.loop-i.invariant.3,
+  inserted_past (inserted (pair_number c.args.vpci c.args.vci) (listed c.args.self)) c.loop-i.numbers (drop c.loop-i.i (listed c.args.self)) c.loop-i.i
+      (get_or c.args.self.numbers c.loop-i.i 0) c.loop-i.carried (drop (c.loop-i.i + 1) (listed c.args.self)) (omega arith)
+      (listed_next c.args.self c.args.self.count c.loop-i.i c.loop-i.invariant.1 (omega arith)) c.if-next-carried.true c.loop-i.invariant.4,
+)
 
 pub loop-i-preserved : goal.loop-i-preserved
 loop-i-preserved c = (
-      search rules,
-      c.loop-i.invariant.1,
-      c.loop-i.invariant.2,
-      filled_more c.loop-i.numbers c.loop-i.i c.loop-i.carried (omega arith) c.loop-i.invariant.3,
-      inserted_here (inserted (pair_number c.args.vpci c.args.vci) (listed c.args.self)) c.loop-i.numbers (drop c.loop-i.i (listed c.args.self)) c.loop-i.i
-          (get_or c.args.self.numbers c.loop-i.i 0) c.loop-i.carried (drop (c.loop-i.i + 1) (listed c.args.self)) (omega arith)
-          (listed_next c.args.self c.args.self.count c.loop-i.i c.loop-i.invariant.1 (omega arith)) c.if-next-carried.false c.loop-i.invariant.4,
-    )
+  search rules,
+  c.loop-i.invariant.1,
+  c.loop-i.invariant.2,
+  filled_more c.loop-i.numbers c.loop-i.i c.loop-i.carried (omega arith) c.loop-i.invariant.3,
+  inserted_here (inserted (pair_number c.args.vpci c.args.vci) (listed c.args.self)) c.loop-i.numbers (drop c.loop-i.i (listed c.args.self)) c.loop-i.i
+      (get_or c.args.self.numbers c.loop-i.i 0) c.loop-i.carried (drop (c.loop-i.i + 1) (listed c.args.self)) (omega arith)
+      (listed_next c.args.self c.args.self.count c.loop-i.i c.loop-i.invariant.1 (omega arith)) c.if-next-carried.false c.loop-i.invariant.4,
+)
 
 pub returns : goal.returns
 returns c = let e : c.loop-i.i ≡ c.args.self.count = omega arith in

@@ -1,13 +1,11 @@
 -- `Pairs::without` meets its contract. The loop's invariant: the pairs passed that stay are in front, and the pair is to be taken out of what is left.
 -- Assumes nothing.
-use borrow.Author.Rules.{rules}
-use Prim.Native.Nat.{◌≤◌, ◌-◌, ◌+◌}
-use native.Mathlib.Omega.{arith}
-use mathlib.Core.Path.{◌≡◌, refl, sym, ap, ◌∙◌}
+use Prim.Native.Nat.{◌≤◌, ◌-◌}
+use mathlib.Core.Path.{◌≡◌}
 use mathlib.Core.List.{◌++◌}
-use lib.ListN.{length, take, drop, get_or}
-use Rattle.pairs.specs.Pairs.{listed, packed, removed}
-use Rattle.pairs.proofs.Places.{Span, span-size, listed_next, Filled, filled_none, filled_more, filled_all, removed_here, removed_past, removed_last}
+use lib.ListN.{take, drop}
+use Rattle.pairs.specs.Pairs.{listed, removed}
+use Rattle.pairs.proofs.Places.{Span, Filled}
 use Rattle.pairs.proofs.Pairs.without.Given as goal
 
 abbrev pub invariant-loop-i : goal.invariant-loop-i
