@@ -2,7 +2,7 @@
 # Instructions and time for each event of a standard life of a call, and events
 # a second of a long script, for the proved controller and for the reference
 # implementation, in one run.
-# usage: bench.sh LIVES EXCHANGE   the programs that `rt check lives exchange` makes
+# usage: bench.sh LIVES EXCHANGE   the programs that `rt run` makes in crates/lives and crates/exchange
 set -eu
 export LC_ALL=C
 

@@ -1,6 +1,6 @@
 #!/bin/sh
 # Runs a program on the conformance cases, or on those of a name, and writes the verdicts as TAP.
-# usage: cases.sh PROGRAM [NAME ..]    as cases.sh target/bin/exchange CL-01 'SE-*'
+# usage: cases.sh PROGRAM [NAME ..]    as cases.sh crates/exchange/out/exchange CL-01 'SE-*'
 set -eu
 
 if [ $# -lt 1 ]; then

@@ -2,7 +2,7 @@
 # What the search for the lowest free pair costs, before a change and after it:
 # instructions for each event of calls that end at once (SETUP, RELEASE COMPLETE),
 # for two programs `lives` and for the reference implementation, in one run.
-# usage: search.sh BEFORE AFTER   two programs that `rt check lives` made
+# usage: search.sh BEFORE AFTER   two programs that `rt run` made in crates/lives
 set -eu
 export LC_ALL=C
 

@@ -56,7 +56,7 @@ impl Books {
 
     /// The files and folders that a text names in backticks, as
     /// `crates/octets/src/lib.rt`. Words with a place to fill in are passed
-    /// over.
+    /// over, and so is what a build makes.
     pub fn paths(&mut self, text: &str) {
         const FOLDERS: [&str; 5] = ["crates/", "harness/", "docs/", "examples/", ".ci/"];
         for (index, line) in text.lines().enumerate() {
@@ -64,7 +64,7 @@ impl Books {
                 let path = piece.split(' ').next().unwrap_or_default();
                 let is_path = FOLDERS.iter().any(|folder| path.starts_with(folder));
                 let is_open = path.contains("NAME") || path.contains("CRATE") || path.contains('*');
-                if is_path && !is_open && !path.contains("/target/") {
+                if is_path && !is_open && !path.contains("/target/") && !path.contains("/out/") {
                     let is_there = self.root.join(path).exists();
                     self.found(is_there, index + 1, path);
                 }
@@ -169,7 +169,7 @@ fn place_in(text: &str) -> Option<Place> {
 /// If a line of a text declares the name: behind a mark, or, as a constructor
 /// does, before its type.
 fn declares(text: &str, name: &str) -> bool {
-    const MARKS: [&str; 5] = ["abbrev", "unfoldable", "pub", "record", "data"];
+    const MARKS: [&str; 6] = ["abbrev", "unfoldable", "opaque", "pub", "record", "data"];
     text.lines().any(|line| {
         let words: Vec<&str> = line.split_whitespace().collect();
         let marks = words.iter().take_while(|word| MARKS.contains(word)).count();

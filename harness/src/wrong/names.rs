@@ -4,7 +4,7 @@ use std::fs;
 use std::path::{Path, PathBuf};
 
 /// Words that stand before the name of a definition.
-const MARKS: [&str; 5] = ["abbrev", "unfoldable", "pub", "record", "data"];
+const MARKS: [&str; 6] = ["abbrev", "unfoldable", "opaque", "pub", "record", "data"];
 
 /// The function or definition that a place stands in.
 pub fn enclosing(text: &str, at: usize) -> Option<String> {
