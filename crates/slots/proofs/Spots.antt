@@ -10,7 +10,6 @@ use Rattle.calls.specs.declared.Slot.{Slot}
 use Rattle.calls.specs.Calls.{no_slot}
 use Rattle.first.specs.declared.Found.{Found}
 use Rattle.first.specs.declared.Found.TheVariants.{Nothing as NoPlace, At as PlaceAt}
-use Rattle.slots.specs.declared.Spot.{Spot}
 use Rattle.slots.specs.declared.Spot.TheVariants.{Nothing, At}
 use Rattle.slots.specs.Slots.{spot}
 
