@@ -23,7 +23,7 @@ FIXED = {
     "out-of-service": "none_out_of_service", "under-restart": "none_under_restart", "putting-back": "puts_marks_back",
     "second-expiry": "second_t316_expiry", "is-message": "its_message", "is-put-back": "is_put_back_command",
     "is-restart": "is_restart_command", "put-back": "put_marks_back",
-    "getD-replicate-default": "get_or-replicate_default", "hold-due": "hold_due_lem", "no-pair": "no_pair_lem", "no-slot": "no_slot_lem", "or-record": "or_record_lem",
+    "length-told": "length_told", "getD-replicate-default": "get_or-replicate_default", "hold-due": "hold_due_lem", "no-pair": "no_pair_lem", "no-slot": "no_slot_lem", "or-record": "or_record_lem",
     "out-after": "out_after_lem", "pairs-kept": "pairs_kept_lem", "restart-class": "restart_class_lem", "state-due": "state_due_lem",
 }
 # Lemmas that the kit's script gave the name that a definition gets here.

@@ -161,8 +161,8 @@ module _ (m s : List ℕ) where
       let e : (at + n) - at ≡ n = omega arith in
       rw e (length-take-le n (drop at m) (rw (length-drop at m) (omega (arith, h at n refl))))
 
-  length-told : length (shown_of m s) ≡ length_of (extent_of m s)
-  length-told = told_by (calling_in m) (λ at n e. let f = inside at n (ap (or_record s) e) in omega (arith, f.inside, f.within))
+  length_told : length (shown_of m s) ≡ length_of (extent_of m s)
+  length_told = told_by (calling_in m) (λ at n e. let f = inside at n (ap (or_record s) e) in omega (arith, f.inside, f.within))
 
   address_whole : (start end : ℕ) → passes (head_of m) ≡ true → first_of 0x6C (items m 9) ≡ Whole 0x6C 0x80 start end
       → calling_fits (part m start end) ≡ true → allowed (part m start end) ≡ true
@@ -177,6 +177,6 @@ privacy m s = record {
   empty_part = empty_part m s;
   record_whole = record_whole m s;
   message_inside = inside m s;
-  length-told = length-told m s;
+  length_told = length_told m s;
   address_whole = address_whole m s;
 }

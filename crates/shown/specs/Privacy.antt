@@ -37,7 +37,7 @@ pub record Private (m s : List ℕ) : Type 0 where
   -- what is shown of a message lies in the contents of its first 6C, and only a readable one is shown
   pub message_inside : (at n : ℕ) → extent_of m s ≡ Message at n → InFirst m at n
   -- "Say which one and which octets.": the length that is said is that of the part
-  pub length-told : length (shown_of m s) ≡ length_of (extent_of m s)
+  pub length_told : length (shown_of m s) ≡ length_of (extent_of m s)
   -- "the address shown": with presentation allowed, it is the readable contents without octets 5 and 5a, no octet more or less
   pub address_whole : (start end : ℕ) → passes (head_of m) ≡ true → first_of 0x6C (items m 9) ≡ Whole 0x6C 0x80 start end
       → calling_fits (part m start end) ≡ true → allowed (part m start end) ≡ true
