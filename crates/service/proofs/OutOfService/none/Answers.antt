@@ -1,0 +1,4 @@
+use Rattle.service.proofs.OutOfService.none.Goals as goal
+
+pub returns : goal.returns
+returns c = rw c.none-pairs.ensures
