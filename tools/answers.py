@@ -236,7 +236,8 @@ def turn(folder, data, crate, ensured):
         except Unnamed as e:
             missing.append(f"{new}: {e}")
             continue
-        asked = data["asked"].get(new)
+        own = ensured.get("::".join([crate] + folder.split("/")), {}).get("ensures", [])
+        asked = data["asked"].get(new) or (own if new.startswith("returns") and len(own) > 1 else None)
         if asked:
             record = by_name(body, asked)
             if record is None:
