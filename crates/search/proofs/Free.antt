@@ -11,7 +11,7 @@ use mathlib.Core.Path.{◌≡◌, refl}
 use mathlib.Core.Bool.{Bool, true, false, ◌||◌, or-true, or-false}
 use mathlib.Core.List.{List}
 use Rattle.channels.specs.Some.{some_of}
-use Rattle.channels.specs.Channels.{among, lowest, in_ranges, permanent, permitted, is_pair}
+use Rattle.channels.specs.Channels.{lowest, in_ranges, permanent, permitted, is_pair}
 use Rattle.channels.specs.declared.Channel.{Channel}
 use Rattle.channels.specs.declared.Channel.TheVariants.{None, Pair}
 use Rattle.channels.specs.declared.Entry.{Entry}

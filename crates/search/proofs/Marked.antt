@@ -13,12 +13,12 @@ use mathlib.Core.Bool.{Bool, true, false, ◌&&◌, ◌||◌, or-true, or-false,
 use mathlib.Core.List.{List}
 use native.Mathlib.Omega.{arith}
 use lib.Dec.{eqb, leb, ltb}
-use lib.ListN.{length, get_or, set, length-set}
+use lib.ListN.{length, get_or, length-set}
 use lib.Seq.{get_or-set_same, get_or-set_other}
 use borrow.Author.Tests.{eqb-true, eqb-false, eq-eqb, ne_eqb, leb-true, leb-false, ltb-true, lt-ltb}
 use Rattle.channels.specs.Channels.{range_count}
 use Rattle.channels.specs.declared.Range.{Range}
-use Rattle.channels.proofs.Cases.{by_test, clash, both}
+use Rattle.channels.proofs.Cases.{by_test, both}
 use Rattle.pairs.specs.Pairs.{pair_number, is_number}
 use Rattle.pairs.proofs.Laws.{number_is}
 use Rattle.search.specs.Marks.{near, all_marks, range_at, mark_in, Added}

@@ -1,0 +1,42 @@
+-- `mark_slots` meets its contract. The loop's invariant: the calls of the slots passed are marked and counted.
+use borrow.Author.Rules.{rules}
+use native.Mathlib.Omega.{arith}
+use mathlib.Core.Path.{◌≡◌}
+use lib.ListN.{length}
+use Rattle.calls.specs.Calls.{no_slot, is_live, holds_pair}
+use Rattle.slots.specs.Slots.{slot_count}
+use Rattle.search.proofs.Pass.{passed_none, passed_wide, passed_room, passed_skip, passed_on, passed_end}
+use Rattle.search.proofs.mark_slots.Goals as goal
+
+pub loop-i-init : goal.loop-i-init
+loop-i-init c = let long : length c.args.slots.all ≡ slot_count = search rules in
+    (long, passed_none is_live holds_pair c.args.pool.ranges c.args.n c.args.slots.all c.args.on.now c.args.reads.now c.requires.1 c.requires.2)
+
+pub loop-i-preserved-in_default : goal.loop-i-preserved-in_default
+loop-i-preserved-in_default c = (
+  c.loop-i.invariant.0,
+  passed_skip is_live holds_pair c.args.pool.ranges c.args.n c.args.slots.all c.args.on.now c.args.reads.now c.loop-i.i c.loop-i.on c.loop-i.reads no_slot (omega arith)
+      (rw c.in_default.is) (λ p v. rw c.in_default.is) c.loop-i.invariant.1,
+)
+
+pub mark_pair-requires : goal.mark_pair-requires
+mark_pair-requires c = let few =
+    passed_room is_live holds_pair c.args.pool.ranges c.args.n c.args.slots.all c.args.on.now c.args.reads.now c.loop-i.i c.loop-i.on c.loop-i.reads (omega arith) c.loop-i.invariant.1 in (
+      c.requires.0,
+      passed_wide is_live holds_pair c.args.pool.ranges c.args.n c.args.slots.all c.args.on.now c.args.reads.now c.loop-i.i c.loop-i.on c.loop-i.reads c.loop-i.invariant.1,
+      omega arith,
+    )
+
+pub loop-i-preserved : goal.loop-i-preserved
+loop-i-preserved c = (
+  c.loop-i.invariant.0,
+  passed_on is_live holds_pair c.args.pool.ranges c.args.n c.args.slots.all c.args.on.now c.args.reads.now c.loop-i.i c.loop-i.on c.loop-i.reads no_slot _ _ _ _ (omega arith)
+      (rw c.in-Live.is) (λ p v. rw c.in-Live.is) c.mark_pair.ensures.count c.mark_pair.ensures.marks c.loop-i.invariant.1,
+)
+
+pub shape_of-on : goal.shape_of-on
+shape_of-on c = c.loop-i.invariant.1.marks.wide
+
+pub returns : goal.returns
+returns c = let ended = passed_end is_live holds_pair c.args.pool.ranges c.args.n c.args.slots.all c.args.on.now c.args.reads.now c.loop-i.i c.loop-i.on c.loop-i.reads (omega arith) c.loop-i.invariant.1 in
+    record { count = ended.0; marks = ended.1 }
