@@ -1,5 +1,5 @@
 #!/bin/sh
-# Tries wrong programs of harness/wrong again: the prover must refuse each. All of them take hours.
+# Tries wrong programs of harness/wrong again: the prover must refuse each. All of them take more than an hour.
 # usage: wrong.sh [NAME ..]    a crate, or CRATE/NAME; none: all
 set -eu
 export LC_ALL=C
