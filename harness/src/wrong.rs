@@ -1,7 +1,8 @@
 //! Wrong programs: edits of a crate, each of which makes it answer something
 //! else, so that the prover must refuse it.
 //!
-//! Those under `crates/NAME/must-fail/` are kept: the gate tries them. Those under `harness/wrong/NAME/` were tried, and can be tried again.
+//! Those under `crates/NAME/must-fail/` are kept: the gate tries them. Those
+//! under `harness/wrong/NAME/` were tried, and can be tried again.
 //! An edit is a file of lines:
 //!
 //! ```text
