@@ -1,7 +1,7 @@
 // Unknown elements: which they are, where the first stands, and the identifiers that are told (document 02, R-5).
 //   is_known                   does an identifier count as known?
 //   Unknown, first_unknown     where the first unknown element from a place on stands
-//   Skipped, skipped           the identifiers of the first 8 unknown ones
+//   Skipped, skipped_in        the identifiers of the first 8 unknown ones
 // `m` is any octets, and `from` the place of the first element: 9 in a message.
 // Nothing public has a `requires`. Assumes nothing.
 #![tactic(auto)]
@@ -111,7 +111,7 @@ fn gather(m: &[u8], from: usize) -> Gathered
 }
 
 // The identifiers of the first 8 unknown elements, as a STATUS tells them.
-pub fn skipped(m: &[u8], from: usize) -> Skipped
+pub fn skipped_in(m: &[u8], from: usize) -> Skipped
     ensures { result ≡ skipped_of (told m.now from) }
 {
     let found = gather(m, from);
