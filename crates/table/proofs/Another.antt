@@ -6,11 +6,9 @@
 -- Assumes nothing.
 use Prim.Native.Nat.{ℕ, ◌+◌}
 use mathlib.Core.Path.{◌≡◌, refl, sym, ap, ◌∙◌}
-use mathlib.Core.Bool.{Bool, true, false, ◌||◌, or-false, and-true}
-use mathlib.Core.List.{List}
+use mathlib.Core.Bool.{Bool, false, or-false, and-true}
 use native.Mathlib.Omega.{arith}
 use lib.Dec.{leb}
-use lib.ListN.{get_or}
 use borrow.Author.Tests.{lt-leb}
 use Rattle.channels.proofs.Cases.{by_test}
 use Rattle.calls.specs.declared.State.{State}
@@ -18,10 +16,8 @@ use Rattle.calls.specs.declared.State.TheVariants.{N3, N6, N9, N10, N12}
 use Rattle.calls.specs.declared.Call.{Call}
 use Rattle.calls.specs.declared.Hold.{Hold}
 use Rattle.calls.specs.declared.Hold.TheVariants.{Empty, Live}
-use Rattle.calls.specs.declared.Slot.{Slot}
 use Rattle.calls.specs.declared.Due.{Due}
 use Rattle.calls.specs.declared.Due.TheVariants.{Never, At}
-use Rattle.calls.specs.Calls.{no_slot}
 use Rattle.calls.specs.Timers.{t308, hold_due, due_by}
 use Rattle.slots.specs.declared.Slots.{Slots}
 use Rattle.slots.specs.declared.Soonest.{Soonest}
