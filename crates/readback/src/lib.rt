@@ -12,4 +12,3 @@
 //   proofs/Examples.antt       messages of document 01
 // Assumes nothing.
 #![tactic(auto)]
-
