@@ -15,8 +15,7 @@ use borrow.Author.Tests.{eq-eqb, ne_eqb, le-ltb, lt-ltb}
 use borrow.Author.Count.{below_more}
 use lib.ListN.{length, get_or, set, drop, drop_of_length-le, length-take}
 use lib.Seq.{drop-cons, get_or-set_same, get_or-set_other}
-use Rattle.io.specs.Counts.{IsPrefixLen}
-use Rattle.decoder.specs.Hex.{digit_of, to_break, all_digits, octet_at}
+use Rattle.decoder.specs.Hex.{IsPrefixLen, digit_of, to_break, all_digits, octet_at}
 
 module _ (cs : List ℕ) (i : ℕ) where
   pub break_here : i < length cs → get_or cs i 0 ≡ 10 → to_break (drop i cs) ≡ 0

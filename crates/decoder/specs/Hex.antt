@@ -4,8 +4,9 @@
 --   all_digits    is every character a digit?
 --   kind_of       what kind of line it is
 --   octet_at      the octet that two digits of a line give
+--   IsPrefixLen   a number of octets at the front of a room
 -- Assumes nothing.
-use Rattle.std.specs.Prelude.{ℕ, suc, ◌+◌, ◌*◌, ◌-◌, ◌%◌, Bool, true, false, cond, List, [], ◌∷◌, eqb, leb, ltb, length, get_or}
+use Rattle.std.specs.Prelude.{◌≡◌, ℕ, suc, ◌+◌, ◌*◌, ◌-◌, ◌%◌, ◌≤◌, Bool, true, false, cond, List, [], ◌∷◌, eqb, leb, ltb, length, take, get_or}
 use Rattle.decoder.specs.declared.hex.Kind.{Kind}
 use Rattle.decoder.specs.declared.hex.Kind.TheVariants.{Skipped, Empty, Digits, Bad}
 
@@ -42,3 +43,7 @@ octet_of high low = (digit_of high % 16) * 16 + digit_of low % 16
 
 abbrev pub octet_at : List ℕ → ℕ → ℕ
 octet_at line k = octet_of (get_or line (2 * k) 0) (get_or line (2 * k + 1) 0)
+
+-- as many octets as stand in the front of that length
+abbrev pub IsPrefixLen : ℕ → List ℕ → Type 0
+IsPrefixLen n xs = (n ≤ length xs) × (n ≡ length (take n xs))

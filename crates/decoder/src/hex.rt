@@ -4,8 +4,7 @@
 //   octets       the octets of a line of digits
 // Assumes nothing.
 ghost use Rattle.std.specs.Prelude.{◌≡◌, ℕ, ◌+◌, ◌*◌, ◌/◌, ◌<◌, ◌≤◌, length, drop, get_or};
-ghost use Rattle.io.specs.Counts.{IsPrefixLen};
-ghost use Rattle.decoder.specs.Hex.{digit_of, to_break, all_digits, kind_of, octet_of, octet_at};
+ghost use Rattle.decoder.specs.Hex.{IsPrefixLen, digit_of, to_break, all_digits, kind_of, octet_of, octet_at};
 
 // The place of the first line break from a place on, the table's length where there is none.
 pub(crate) fn line_end(table: &[u8], from: usize) -> usize

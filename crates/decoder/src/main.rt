@@ -9,10 +9,10 @@
 mod found;
 mod hex;
 
-ghost use Rattle.std.specs.Prelude.{◌≤◌, length};
+ghost use Rattle.std.specs.Prelude.{◌≤◌, IfOk, length};
 
-use found::print;
 use header::{Head, Header};
+use std::io::{Read, Result};
 
 // Which of the first two steps ignores a message, where one does.
 fn ignoring_step(m: &[u8]) -> u64 {
@@ -25,92 +25,104 @@ fn ignoring_step(m: &[u8]) -> u64 {
     2
 }
 
-fn print_ignored(m: &[u8]) {
-    print(b"ignored ");
-    io::print_decimal(1, ignoring_step(m));
+fn print_ignored(rt: &impl Print, m: &[u8]) -> Result<()> {
+    let step = ignoring_step(m);
+    print!(rt; "ignored {step}")
 }
 
-fn right_or_wrong(right: bool) {
+fn right_or_wrong(rt: &impl Print, right: bool) -> Result<()> {
     if right {
-        print(b"right");
+        print!(rt; "right")
     } else {
-        print(b"wrong");
+        print!(rt; "wrong")
     }
 }
 
-fn print_header(h: Header) {
-    print(b"flag ");
-    io::print_decimal(1, h.flag as u64);
-    print(b" ref ");
-    io::print_decimal(1, h.reference as u64);
-    print(b" type ");
-    io::print_hex(1, h.kind as u64, 2);
-    print(b" length ");
-    right_or_wrong(h.whole);
+fn print_header(rt: &impl Print, h: Header) -> Result<()> {
+    let flag = h.flag as u64;
+    let reference = h.reference;
+    let kind = h.kind;
+    print!(rt; "flag {flag} ref {reference} type {kind:02x} length ")?;
+    right_or_wrong(rt, h.whole)
 }
 
-fn print_elements(m: &[u8]) {
-    found::cause(m);
-    found::call_state(m);
-    found::traffic(m);
-    found::connection(m);
-    found::readable(b'5', b'C', m, 0x5C);
-    found::bearer(m);
-    found::readable(b'7', b'0', m, 0x70);
-    found::restart(m);
-    found::offer(m);
+fn print_elements(rt: &impl Print, m: &[u8]) -> Result<()> {
+    found::cause(rt, m)?;
+    found::call_state(rt, m)?;
+    found::traffic(rt, m)?;
+    found::connection(rt, m)?;
+    found::readable(rt, b'5', b'C', m, 0x5C)?;
+    found::bearer(rt, m)?;
+    found::readable(rt, b'7', b'0', m, 0x70)?;
+    found::restart(rt, m)?;
+    found::offer(rt, m)
 }
 
-fn print_message(m: &[u8]) {
+fn print_message(rt: &impl Print, m: &[u8]) -> Result<()> {
     match header::read(m) {
-        Head::Ignored => print_ignored(m),
+        Head::Ignored => print_ignored(rt, m)?,
         Head::Is(h) => {
-            print_header(h);
-            print_elements(m);
+            print_header(rt, h)?;
+            print_elements(rt, m)?;
         }
     }
-    print(b"\n");
+    println!(rt)
 }
 
-fn print_octets(digits: &[u8])
+fn print_octets(rt: &impl Print, digits: &[u8]) -> Result<()>
     requires { length digits.now ≤ 65536 }
 {
     let mut room = [0u8; 32768];
     let n = hex::octets(digits, &mut room);
-    print_message(&room[..n]);
+    print_message(rt, &room[..n])
 }
 
-fn print_line(line: &[u8])
+fn print_line(rt: &impl Print, line: &[u8]) -> Result<()>
     requires { length line.now ≤ 65536 }
 {
     match hex::kind_of(line) {
-        hex::Kind::Skipped => {}
-        hex::Kind::Empty => print_message(b""),
-        hex::Kind::Digits => print_octets(line),
-        hex::Kind::Bad => print(b"bad line\n"),
+        hex::Kind::Skipped => Ok(()),
+        hex::Kind::Empty => print_message(rt, b""),
+        hex::Kind::Digits => print_octets(rt, line),
+        hex::Kind::Bad => println!(rt; "bad line"),
     }
 }
 
-fn print_lines(table: &[u8])
+fn print_lines(rt: &impl Print, table: &[u8]) -> Result<()>
     requires { length table.now ≤ 65536 }
 {
     let mut at: usize = 0;
     while at < table.len() {
         let end = hex::line_end(table, at);
-        print_line(&table[at..end]);
+        print_line(rt, &table[at..end])?;
         if end == table.len() {
-            return;
+            return Ok(());
         }
         at = end + 1;
     }
+    Ok(())
 }
 
-fn main() {
-    let mut room = io::large_buffer();
-    let n = io::read_full(0, &mut room);
-    if n == 65536 {
-        print(b"table too long\n");
-        return;
+// Reads until the room is full or the input ends, and answers how many octets came.
+fn read_full(input: &mut impl Read, room: &mut [u8]) -> Result<usize>
+    ensures { IfOk result (λ n. n ≤ length room.new) }
+{
+    let mut n: usize = 0;
+    while n < room.len() {
+        let got = input.read(&mut room[n..])?;
+        if got == 0 {
+            return Ok(n);
+        }
+        n += got;
     }
-    print_lines(&room[..n]);
+    Ok(n)
+}
+
+fn main(rt: HostRuntime) -> Result<()> {
+    let mut room = [0u8; 65536];
+    let n = read_full(&mut rt.stdin(), &mut room)?;
+    if n == 65536 {
+        return println!(rt; "table too long");
+    }
+    print_lines(&rt, &room[..n])
 }

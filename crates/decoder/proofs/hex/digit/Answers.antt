@@ -1,0 +1,44 @@
+-- `decoder::hex::digit` meets its contract: each test of the code is a test of `digit_of`. Assumes nothing.
+use borrow.Author.Tests.{lt-ltb, le-ltb, le-leb, lt-leb}
+use Rattle.decoder.proofs.hex.digit.Goals as goal
+
+pub returns-then-c-lt48 : goal.returns-then-c-lt48
+returns-then-c-lt48 c = rw (lt-ltb _ _ c.if-c-lt48.true)
+
+pub returns-then-c-le57 : goal.returns-then-c-le57
+returns-then-c-le57 c = rw (le-ltb _ _ c.if-c-lt48.false, le-leb _ _ c.if-c-le57.true)
+
+pub returns-then-c-lt65 : goal.returns-then-c-lt65
+returns-then-c-lt65 c = rw (le-ltb _ _ c.if-c-lt48.false, lt-leb _ _ c.if-c-le57.false, lt-ltb _ _ c.if-c-lt65.true)
+
+pub returns-then-c-le70 : goal.returns-then-c-le70
+returns-then-c-le70 c = rw (le-ltb _ _ c.if-c-lt48.false, lt-leb _ _ c.if-c-le57.false, le-ltb _ _ c.if-c-lt65.false, le-leb _ _ c.if-c-le70.true)
+
+pub returns-then-c-lt97 : goal.returns-then-c-lt97
+returns-then-c-lt97 c = rw (
+  le-ltb _ _ c.if-c-lt48.false,
+  lt-leb _ _ c.if-c-le57.false,
+  le-ltb _ _ c.if-c-lt65.false,
+  lt-leb _ _ c.if-c-le70.false,
+  lt-ltb _ _ c.if-c-lt97.true,
+)
+
+pub returns-then-c-le102 : goal.returns-then-c-le102
+returns-then-c-le102 c = rw (
+  le-ltb _ _ c.if-c-lt48.false,
+  lt-leb _ _ c.if-c-le57.false,
+  le-ltb _ _ c.if-c-lt65.false,
+  lt-leb _ _ c.if-c-le70.false,
+  le-ltb _ _ c.if-c-lt97.false,
+  le-leb _ _ c.if-c-le102.true,
+)
+
+pub returns : goal.returns
+returns c = rw (
+  le-ltb _ _ c.if-c-lt48.false,
+  lt-leb _ _ c.if-c-le57.false,
+  le-ltb _ _ c.if-c-lt65.false,
+  lt-leb _ _ c.if-c-le70.false,
+  le-ltb _ _ c.if-c-lt97.false,
+  lt-leb _ _ c.if-c-le102.false,
+)
