@@ -10,7 +10,7 @@ use Rattle.search.proofs.Walked.{passed_one, full_next, walked_found, walked_end
 use Rattle.search.proofs.find_free.Goals as goal
 
 pub returns-then-n-eq0 : goal.returns-then-n-eq0
-returns-then-n-eq0 c = unused_answer c.args.slots.all c.args.doubts c.args.out c.args.state c.args.pool (sym c.if-n-eq0.true ∙ c.ranges_used-n.ensures.value)
+returns-then-n-eq0 c = unused_answer c.args.slots.all c.args.doubts c.args.out c.args.state c.args.pool (let e = c.ranges_used-n.ensures.value in omega arith)
 
 pub returns-then-is_all_taken : goal.returns-then-is_all_taken
 returns-then-is_all_taken c = all_answer c.args.slots.all c.args.doubts c.args.out c.args.state c.args.pool (sym c.is_all_taken.ensures ∙ c.if-is_all_taken.true)
@@ -32,7 +32,7 @@ loop-v-init c = (c.search.invariant.1, search rules, λ o h. absurd (omega arith
 
 pub bounds-on-k : goal.bounds-on-k
 bounds-on-k c = let r = range_at c.args.pool.ranges c.search.k in
-    let offset = near_offset r c.loop-v.invariant.1 c.loop-v-test.true c.near_last-last.ensures.value in
+    let offset = near_offset r c.loop-v.invariant.1 (omega arith) c.near_last-last.ensures.value in
     omega arith
 
 pub loop-v-preserved : goal.loop-v-preserved
@@ -61,6 +61,6 @@ returns-then-not-on-k c = let a = c.args in
     sparse a.slots.all a.doubts a.out a.state a.pool.permanents (search rules) (search rules) (search rules) (search rules) in
     let found =
     walked_found (taken_singly a.slots.all a.doubts a.out a.state a.pool.permanents) few a.pool.ranges c.ranges_used-n.result _ c.ranges_used-n.ensures.within (search rules)
-    c.mark_pairs.ensures.marks c.search.k c.search-test.true c.search.invariant.2 c.near_last-last.ensures.value c.near_last-last.ensures.within c.loop-v.invariant.1 c.loop-v-test.true c.loop-v.invariant.2
+    c.mark_pairs.ensures.marks c.search.k c.search-test.true c.search.invariant.2 c.near_last-last.ensures.value c.near_last-last.ensures.within c.loop-v.invariant.1 (omega arith) c.loop-v.invariant.2
     c.if-not-on-k.true in
     answer a.slots.all a.doubts a.out a.state a.pool (sym c.is_all_taken.ensures ∙ c.if-is_all_taken.false) c.ranges_used-n.ensures.value c.if-n-eq0.false found c.mark_pairs.ensures.count
