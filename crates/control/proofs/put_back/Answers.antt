@@ -1,0 +1,10 @@
+use borrow.Author.Rules.{rules}
+use borrow.Author.Tests.{ne_eqb}
+use mathlib.Core.Path.{refl}
+use Rattle.control.proofs.put_back.Goals as goal
+
+pub returns-then-n-ne0 : goal.returns-then-n-ne0
+returns-then-n-ne0 c = rw (← c.common_refusal-n.ensures.value, ne_eqb _ _ c.if-n-ne0.true) (c.refuse.ensures, refl)
+
+pub accept-requires : goal.accept-requires
+accept-requires c = ((c.common_refusal-n.ensures.passed c.if-n-ne0.false).0, search rules)
