@@ -7,9 +7,9 @@
 --   or_else_zero, or_else_both     of two refusal numbers one after the other
 --   accepted_host      an accepted clear has a cause of the host
 -- Assumes nothing.
-use Prim.Native.Nat.{ℕ, ◌+◌}
-use mathlib.Core.Path.{◌≡◌, refl, sym, ap, ◌∙◌}
-use mathlib.Core.Bool.{Bool, true, false, not, cond, ◌&&◌, ◌||◌}
+use Prim.Native.Nat.{ℕ}
+use mathlib.Core.Path.{◌≡◌, refl, sym, ap}
+use mathlib.Core.Bool.{Bool, true, false, not, ◌&&◌, ◌||◌}
 use mathlib.Core.List.{List}
 use native.Mathlib.Omega.{arith}
 use lib.Dec.{eqb, ltb}
@@ -27,7 +27,6 @@ use Rattle.calls.specs.declared.Call.{Call}
 use Rattle.calls.specs.declared.Hold.{Hold}
 use Rattle.calls.specs.declared.Hold.TheVariants.{Empty, Live}
 use Rattle.calls.specs.Calls.{is_empty, is_call}
-use Rattle.calls.specs.Timers.{t303}
 use Rattle.first.specs.declared.Found.{Found}
 use Rattle.first.specs.declared.Found.TheVariants.{Nothing, At}
 use Rattle.first.specs.First.{place}
@@ -51,9 +50,7 @@ use Rattle.replies.specs.declared.Outgoing.TheVariants as outgoing
 use Rattle.setup.specs.declared.Admission.{Admission}
 use Rattle.setup.specs.declared.Admission.TheVariants.{Admitted, Refused}
 use Rattle.setup.specs.Setup.{admission}
-use Rattle.verdicts.specs.declared.Verdict.{Verdict}
-use Rattle.verdicts.specs.Verdict.{plain_cause, moved}
-use Rattle.verdicts.specs.Expiry.{released}
+use Rattle.verdicts.specs.Verdict.{plain_cause}
 use Rattle.judging.specs.Judge.{judge, no_call_reply, global_reply}
 use Rattle.effects.specs.declared.Effect.{Effect}
 use Rattle.effects.specs.Effect.{quiet, replying, on_call, assigned}
@@ -68,12 +65,12 @@ use Rattle.table.specs.declared.Table.{Table}
 use Rattle.table.specs.Effects.{free_pair, user_call, on_pair, admitted, setup_effect, on_no_call, on_hold, addressed, global_effect, no_room, fire_hold, fired, request_first, tick_effect}
 use Rattle.refusals.specs.Refusals.{or_else, common_refusal, unconnectable, unless_n3, unclearable, cause_refusal, host_causes, may_restart, target_refusal}
 use Rattle.outcome.specs.Outcome.{Outcome, sending, refused_with, unless_refused}
-use Rattle.commands.specs.Commands.{connected, cleared, network_call, offered_on}
+use Rattle.commands.specs.Commands.{connected, cleared, offered_on}
 use Rattle.control.specs.Events.{heard_by, offered_at, offered}
 use Rattle.control.specs.Happens.{Event, message, tick, connect, clear, offer, restart, put_marks_back, happens}
 use Rattle.views.specs.Tables.{slot_at, HasCall}
 use Rattle.views.specs.Effects.{reading_of, body_of, refusal_of, effect_of, more_of, outcome_of}
-use Rattle.views.proofs.Verdicts.{by_cond, by_choice, Judged, judged, expired}
+use Rattle.views.proofs.Verdicts.{by_choice}
 
 -- the event is the message m, with header h, which passed the header checks
 pub data IsMessage (m : List ℕ) (h : Header) : Event → Type 0 where

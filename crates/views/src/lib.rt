@@ -6,4 +6,3 @@
 // A request that adds an event, a message or a fate edits the views; what is proved of all events asks the views.
 // Assumes nothing.
 #![tactic(auto)]
-
