@@ -5,23 +5,20 @@
 use Prim.Native.Nat.{ℕ, ◌+◌, ◌≤◌, ◌<◌}
 use mathlib.Core.Path.{◌≡◌, refl, sym, ap, ◌∙◌}
 use mathlib.Core.Bool.{true, false}
-use mathlib.Core.List.{List, [], ◌∷◌, map}
+use mathlib.Core.List.{List, ◌∷◌}
 use native.Mathlib.Omega.{arith}
 use lib.Dec.{eqb, ltb}
 use lib.ListN.{get_or, drop, drop_of_length-le}
 use borrow.Author.Tests.{lt-ltb, le-ltb, ltb-true, ltb-false}
 use Rattle.channels.proofs.Cases.{by_test}
-use Rattle.channels.specs.Some.{some_of}
-use Rattle.channels.specs.declared.Named.TheVariants.{All}
 use Rattle.pairs.specs.declared.Pairs.{Pairs}
 use Rattle.pairs.specs.Pairs.{listed, ascending}
 use Rattle.pairs.proofs.Places.{Span, listed_next}
 use Rattle.calls.specs.declared.Slot.{Slot}
-use Rattle.calls.specs.Calls.{is_live, is_named}
 use Rattle.first.specs.declared.Found.{Found}
 use Rattle.first.specs.declared.Found.TheVariants.{Nothing as NoPlace, At as PlaceAt}
 use Rattle.slots.specs.declared.Spot.TheVariants.{Nothing, At}
-use Rattle.slots.specs.Slots.{is_set, spot}
+use Rattle.slots.specs.Slots.{spot}
 use Rattle.rules.specs.Rules.{is_at}
 
 pub spot_nothing : (ss : List Slot) (f : Found) (slot : ℕ) → spot ss f ≡ Nothing → is_at slot f ≡ false
