@@ -77,6 +77,7 @@ pub fn is_multipoint(c: &[u8]) -> bool
 }
 
 // 70 Called number.
+#[tactic(auto, using(crate::proofs::Digits::digits_not_low, crate::proofs::Digits::digits_not_high))]
 pub fn digits_from(c: &[u8], from: usize) -> bool
     ensures { result ≡ digits (drop from c.now) }
 {
