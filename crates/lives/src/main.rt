@@ -8,6 +8,7 @@
 ghost use Rattle.std.specs.Prelude.{◌≤◌, ◌<◌};
 
 use outcome::{Answer, Started};
+use std::io::{Read, Result};
 use table::Table;
 
 // A SETUP on reference 0; its elements are an offer's body too.
@@ -199,9 +200,22 @@ fn sum_of(input: &[u8; 4]) -> u64 {
     life.sum
 }
 
-fn main() {
+// Reads until the room is full or the input ends.
+fn read_full(input: &mut impl Read, room: &mut [u8]) -> Result<()> {
+    let mut n: usize = 0;
+    while n < room.len() {
+        let got = input.read(&mut room[n..])?;
+        if got == 0 {
+            return Ok(());
+        }
+        n += got;
+    }
+    Ok(())
+}
+
+fn main(rt: HostRuntime) -> Result<()> {
     let mut input = [0u8; 4];
-    io::read_full(0, &mut input);
-    io::print_decimal(1, sum_of(&input));
-    io::write_all(1, b"\n");
+    read_full(&mut rt.stdin(), &mut input)?;
+    let sum = sum_of(&input);
+    println!(rt; "{sum}")
 }
