@@ -2,4 +2,3 @@
 //   specs/Reached.antt     a table that a start or a reload gave, or any list of events after one
 // Assumes nothing.
 #![tactic(auto)]
-
