@@ -77,7 +77,7 @@ demand_three = record {
 }
 
 pub small_table : SmallTable
-small_table = small.small-table
+small_table = small.small_table
 
 pub slips : SlipsShutOut
 slips = record {

@@ -208,8 +208,8 @@ message-fits e m h o (view.heard label reading room head) =
 offer_passes : (t : Table) (label reading room : ℕ) (body : List ℕ) → refusal_of t (offer label reading room body) ≡ 0 → body_refusal body ≡ 0
 offer_passes t label reading room body h =
     let e = offer label reading room body in
-    let own = (view.or-else-both (common_of t e) (own_of t e) h).1 in
-    (view.or-else-both (body_refusal body) (or_else (slot_refusal (place is_empty t.slots.all)) (pair_refusal (free_pair t))) own).0
+    let own = (view.or_else_both (common_of t e) (own_of t e) h).1 in
+    (view.or_else_both (body_refusal body) (or_else (slot_refusal (place is_empty t.slots.all)) (pair_refusal (free_pair t))) own).0
 
 body-passes : (body : List ℕ) → body_refusal body ≡ 0 → (length body ≤ body_room) × (offer_fits body ≡ true)
 body-passes body e =

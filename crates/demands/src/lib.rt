@@ -8,4 +8,3 @@
 //   every_reply_reads_back, every_reply_is_octets, every_reply_is_short
 // The statements are in specs/Demands.antt and specs/Sent.antt. Assumes nothing.
 #![tactic(auto)]
-

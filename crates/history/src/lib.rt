@@ -9,4 +9,3 @@
 //   proofs/History.antt      lists of events
 // Assumes nothing.
 #![tactic(auto)]
-

@@ -10,4 +10,3 @@
 //   proofs/Leaning.antt         these lists, proved
 // Assumes nothing.
 #![tactic(auto)]
-

@@ -10,4 +10,3 @@
 //   proofs/Roundtrip.antt      the statement, proved
 // Assumes nothing.
 #![tactic(auto)]
-

@@ -238,7 +238,7 @@ does_change t e order x (view.withdraws which d is g z room) = emptied_change t 
 
 pub accepted_reading : (t : Table) (e : Event) → refusal_of t e ≡ 0 → (t.last ≤ reading_of e) × (reading_of e ≤ largest_reading)
 accepted_reading t e h =
-    let common = (view.or-else-both (common_of t e) (own_of t e) h).0 in (
+    let common = (view.or_else_both (common_of t e) (own_of t e) h).0 in (
       by_test (ltb (reading_of e) t.last)
           (λ y. let r = too_early_reaches t e (ltb-true _ _ y) in absurd (omega arith))
           (λ n. ltb-false _ _ n),

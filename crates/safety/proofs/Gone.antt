@@ -97,7 +97,7 @@ held_until_gone t e whole j c q live =
     let gone : CallGone t (happens t e).answer.table j = record { call = c; state = q; before = live; after = empty } in
     let notice = exact.tells.gone j gone in
     inr (record { empty = empty; notice = notice; flag = exact.names.with_3_all notice j gone }))
-    (view.by-event t e (λ (o : Outcome). Stays t j c q live o.answer.table)
+    (view.by_event t e (λ (o : Outcome). Stays t j c q live o.answer.table)
     (λ n. same_stays t j c q live t refl)
     (λ z x d. acts_stays t j c q live e (reading_of e) x.change (does_acts t e x d)))
 
@@ -162,7 +162,7 @@ release_frees_none t e whole release j c q live =
     (λ (k : StillThere (happens t e).answer.table j c). k)
     (λ (g : Went (happens t e) j).
     absurd
-    (view.by-event t e (λ (o : Outcome). get_or o.reply 5 0 ≡ 0x4D → o.answer.notice ≢ 3)
+    (view.by_event t e (λ (o : Outcome). get_or o.reply 5 0 ≡ 0x4D → o.answer.notice ≢ 3)
     (λ n y z. omega arith)
     (λ zero x d y. does_quietly t e x d (sym (sent_kind_lem x.flag x.reference x.outgoing (body_of e)) ∙ y))
     release g.notice))

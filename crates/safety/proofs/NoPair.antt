@@ -150,7 +150,7 @@ does_wants t e sound zero x (view.withdraws which d is g z room) s = clash s ref
 
 says_wants : (t : Table) (e : Event) → (view.IsTick e → Sound t) → Says45 (happens t e).reply → WantsPair t e
 says_wants t e sound =
-    view.by-event t e (λ (o : Outcome). Says45 o.reply → WantsPair t e)
+    view.by_event t e (λ (o : Outcome). Says45 o.reply → WantsPair t e)
     (λ n s. unsaid [] refl s)
     (λ zero x d s. does_wants t e sound zero x d (says_45 x.flag x.reference x.outgoing (body_of e) s))
 

@@ -75,7 +75,7 @@ use Rattle.views.specs.Effects.{reading_of, body_of, refusal_of, effect_of, more
 use Rattle.views.proofs.Verdicts.{by_cond}
 use Rattle.views.proofs.View as view
 use Rattle.safety.specs.Sound.{Sound}
-use Rattle.safety.specs.Restarts.{restart_octets, status101, Sends, Ends, Acknowledged, Withdrawn, Discards, Answers101, PutBack, Leaves, IsAcknowledge, Same, all, one, T316Next, Elsewhere, heard, connecting, clearing, offering, OwnRestarts}
+use Rattle.safety.specs.Restarts.{restart_octets, Sends, Ends, Acknowledged, Withdrawn, Discards, Answers101, PutBack, Leaves, IsAcknowledge, Same, all, one, T316Next, Elsewhere, heard, connecting, clearing, offering, OwnRestarts}
 use Rattle.safety.proofs.Tables.{live_within, out_not_free, named_not_free}
 use Rattle.safety.proofs.Changes.{Comes, old, new, head_is, outcome_change}
 use Rattle.safety.proofs.Sound.{left_accepted, left-refused, reached_sound}
@@ -292,7 +292,7 @@ module _ (t : Table) (e : Event) (no_command : (target : Target) → ¬ view.IsR
 
   leaves : Leaves t (happens t e)
   leaves =
-      view.by-event t e (λ (o : Outcome). Leaves t o)
+      view.by_event t e (λ (o : Outcome). Leaves t o)
       (λ n. record { under_way = refl; marks = refl })
       (λ zero x d. let l = does_leaves x d in record { under_way = l.0; marks = l.1 })
 

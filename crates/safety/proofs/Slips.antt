@@ -74,7 +74,7 @@ not_handed_out t = record {
 pub released_holds : (t : Table) → ReleasedHolds t
 released_holds t label reading room slot cause c q h accepted =
     let e = clear label reading room slot cause in
-    let left : happens t e ≡ outcome_of t e = view.happens-is t e ∙ rw (eq-eqb _ _ (sym (number t e) ∙ accepted)) in
+    let left : happens t e ≡ outcome_of t e = view.happens_is t e ∙ rw (eq-eqb _ _ (sym (number t e) ∙ accepted)) in
     ap (λ (o : Outcome). (slot_at o.answer.table slot).hold) left
     ∙ rw h (ap (λ (s : Slot). s.hold) (get_or-set_same t.slots.all slot _ no_slot (live_within t slot c q h)))
 
@@ -213,14 +213,14 @@ module _ (t : Table) (label reading room : ℕ) (m : List ℕ) (status : get_or 
 
 pub no_status_for_status : (t : Table) → NoStatusForStatus t
 no_status_for_status t label reading room m status =
-    view.by-event t (message label reading room m) (λ (o : Outcome). get_or o.reply 5 0 ≢ 0x7D)
+    view.by_event t (message label reading room m) (λ (o : Outcome). get_or o.reply 5 0 ≢ 0x7D)
     (λ n e. omega arith)
     (λ zero x d e. does_not_status t label reading room m status x d (sym (sent_kind_lem x.flag x.reference x.outgoing []) ∙ e))
 
 -- Permanent pairs.
 
 pub pool_stays : (t : Table) (e : Event) → (happens t e).answer.table.pool ≡ t.pool
-pool_stays t e = view.by-event t e (λ (o : Outcome). o.answer.table.pool ≡ t.pool) (λ n. refl) (λ zero x d. refl)
+pool_stays t e = view.by_event t e (λ (o : Outcome). o.answer.table.pool ≡ t.pool) (λ n. refl) (λ zero x d. refl)
 
 pub permanent_stays : (t : Table) → Reached t → PermanentStays t
 permanent_stays t r = record {

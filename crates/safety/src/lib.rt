@@ -13,4 +13,3 @@
 //   proofs/Sound.antt           `reached_sound`, from which saving and reading back start; proofs/References.antt the width of a reference
 // Assumes nothing.
 #![tactic(auto)]
-
