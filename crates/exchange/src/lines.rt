@@ -4,6 +4,8 @@
 ghost use Rattle.std.specs.Prelude.{◌+◌, ◌≤◌, length};
 ghost use Rattle.exchange.specs.Chunk.{Held};
 
+use std::io::Read;
+
 // The octets up to `whole` are whole lines, those up to `end` were read. `open`: the input may go on.
 #[derive(Clone, Copy)]
 pub(crate) struct Chunk {
@@ -47,13 +49,15 @@ fn move_up(input: &mut [u8; 131072], from: usize, end: usize) -> usize
     held
 }
 
-// Reads once, to a place on, and answers how many octets came: 0 at the end.
-fn fetch(input: &mut [u8], at: usize) -> usize
+// Reads once, to a place on, and answers how many octets came: 0 at the end, and if the read failed.
+fn fetch(source: &mut impl Read, input: &mut [u8], at: usize) -> usize
     requires { at ≤ length input.old }
     ensures { at + result ≤ length input.old }
 {
-    let got = libc::read(0, &mut input[at..]);
-    io::count(got, &input[at..])
+    match source.read(&mut input[at..]) {
+        Ok(got) => got,
+        Err(_) => 0,
+    }
 }
 
 // The place behind the last line end between two places, or 0 if there is none.
@@ -72,12 +76,12 @@ fn behind_lines(input: &[u8; 131072], from: usize, end: usize) -> usize
 }
 
 // Reads on behind what is left of the chunk before. The end of the input ends its last line.
-pub(crate) fn next(input: &mut [u8; 131072], chunk: Chunk) -> Chunk
+pub(crate) fn next(source: &mut impl Read, input: &mut [u8; 131072], chunk: Chunk) -> Chunk
     requires { Held chunk }
     ensures { Held result }
 {
     let held = move_up(input, chunk.whole, chunk.end);
-    let got = fetch(input, held);
+    let got = fetch(source, input, held);
     if got == 0 {
         input[held] = b'\n';
         return Chunk {

@@ -17,6 +17,8 @@ use lines::Chunk;
 use outcome::{Answer, Started};
 use restarts::Target;
 use script::{Clock, Line, List, Request};
+use std::env::Env;
+use std::io::Read;
 use table::Table;
 
 // The pattern that the reply room is filled with.
@@ -124,6 +126,7 @@ fn ask(table: Table, clock: Clock, request: Request, octets: &[u8], room: &mut [
 
 // Writes an answer, and explains it if that is asked for; what lies behind the reply must be untouched.
 fn tell(
+    rt: &impl Print,
     desk: Desk,
     answer: Answer,
     request: Request,
@@ -136,10 +139,10 @@ fn tell(
 {
     let n = reply_end(room, answer.length);
     if room.len() < n {
-        return texts::put_touched(out, desk.used, desk.explains);
+        return texts::put_touched(rt, out, desk.used, desk.explains);
     }
     let reply = &room[0..n];
-    let at = texts::cleared(out, desk.used);
+    let at = texts::cleared(rt, out, desk.used);
     let next = answers::put_answer(
         out,
         at,
@@ -166,6 +169,7 @@ fn tell(
 
 // One event with a room.
 fn respond(
+    rt: &impl Print,
     mut desk: Desk,
     clock: Clock,
     request: Request,
@@ -177,7 +181,7 @@ fn respond(
     ensures { result.used ≤ 65536 }
 {
     let answer = ask(desk.table, clock, request, octets, room);
-    let used = tell(desk, answer, request, octets, room, out);
+    let used = tell(rt, desk, answer, request, octets, room, out);
     let table = answer.table;
     desk.table = table;
     desk.used = used;
@@ -186,6 +190,7 @@ fn respond(
 
 // One event, in a room with the pattern in all of it.
 fn handle(
+    rt: &impl Print,
     mut desk: Desk,
     clock: Clock,
     request: Request,
@@ -196,38 +201,45 @@ fn handle(
     ensures { result.used ≤ 65536 }
 {
     if !desk.live {
-        desk.used = texts::put_no_table(out, desk.used, desk.explains);
+        desk.used = texts::put_no_table(rt, out, desk.used, desk.explains);
         return desk;
     }
     let mut room = [PATTERN; 4096];
     let n = lent(clock.room);
-    respond(desk, clock, request, octets, &mut room[0..n], out)
+    respond(rt, desk, clock, request, octets, &mut room[0..n], out)
 }
 
 // A save with a room; what lies behind the form must be untouched.
-fn store(desk: Desk, room: &mut [u8], out: &mut [u8; 65536]) -> usize
+fn store(rt: &impl Print, desk: Desk, room: &mut [u8], out: &mut [u8; 65536]) -> usize
     requires { (desk.used ≤ 65536) × (length room.old ≤ 4096) }
     ensures { result ≤ 65536 }
 {
     let saved = saved::save(desk.table, room);
     let n = reply_end(room, saved.length);
     if room.len() < n {
-        return texts::put_touched(out, desk.used, desk.explains);
+        return texts::put_touched(rt, out, desk.used, desk.explains);
     }
-    texts::put_saved(out, desk.used, saved.refusal, &room[0..n], desk.explains)
+    texts::put_saved(
+        rt,
+        out,
+        desk.used,
+        saved.refusal,
+        &room[0..n],
+        desk.explains,
+    )
 }
 
 // A save, in a room with the pattern in all of it.
-fn keep(desk: Desk, size: u64, out: &mut [u8; 65536]) -> usize
+fn keep(rt: &impl Print, desk: Desk, size: u64, out: &mut [u8; 65536]) -> usize
     requires { desk.used ≤ 65536 }
     ensures { result ≤ 65536 }
 {
     if !desk.live {
-        return texts::put_no_table(out, desk.used, desk.explains);
+        return texts::put_no_table(rt, out, desk.used, desk.explains);
     }
     let mut room = [PATTERN; 4096];
     let n = lent(size);
-    store(desk, &mut room[0..n], out)
+    store(rt, desk, &mut room[0..n], out)
 }
 
 // A start from two lists.
@@ -243,6 +255,7 @@ fn start(ranges: List, pairs: List) -> Started
 
 // What a start or a reload answers, with a note for each case; a refused one leaves no table.
 fn open(
+    rt: &impl Print,
     mut desk: Desk,
     started: Started,
     accepted: &[u8],
@@ -253,6 +266,7 @@ fn open(
     ensures { result.used ≤ 65536 }
 {
     desk.used = texts::put_opened(
+        rt,
         out,
         desk.used,
         started.refusal,
@@ -267,16 +281,17 @@ fn open(
 }
 
 // A line that begins with `start`.
-fn begin(mut desk: Desk, line: &[u8], out: &mut [u8; 65536]) -> Desk
+fn begin(rt: &impl Print, mut desk: Desk, line: &[u8], out: &mut [u8; 65536]) -> Desk
     requires { desk.used ≤ 65536 }
     ensures { result.used ≤ 65536 }
 {
     let lists = script::read_lists(line);
     if !lists.good {
-        desk.used = texts::put_bad_line(out, desk.used, line, desk.explains);
+        desk.used = texts::put_bad_line(rt, out, desk.used, line, desk.explains);
         return desk;
     }
     open(
+        rt,
         desk,
         start(lists.ranges, lists.pairs),
         b"# start accepted: every slot is empty\n",
@@ -286,11 +301,12 @@ fn begin(mut desk: Desk, line: &[u8], out: &mut [u8; 65536]) -> Desk
 }
 
 // A saved form in place of a start.
-fn restore(desk: Desk, octets: &[u8], n: usize, out: &mut [u8; 65536]) -> Desk
+fn restore(rt: &impl Print, desk: Desk, octets: &[u8], n: usize, out: &mut [u8; 65536]) -> Desk
     requires { (desk.used ≤ 65536) × (n ≤ length octets.now) }
     ensures { result.used ≤ 65536 }
 {
     open(
+        rt,
         desk,
         reload::reload(&octets[0..n]),
         b"# table reloaded\n",
@@ -310,21 +326,28 @@ fn read(line: &[u8], octets: &mut [u8; 4096]) -> Line
 }
 
 // One line; what asks nothing of the table is answered apart.
-fn take(desk: Desk, line: &[u8], octets: &mut [u8; 4096], out: &mut [u8; 65536]) -> Desk
+fn take(
+    rt: &impl Print,
+    desk: Desk,
+    line: &[u8],
+    octets: &mut [u8; 4096],
+    out: &mut [u8; 65536],
+) -> Desk
     requires { desk.used ≤ 65536 }
     ensures { result.used ≤ 65536 }
 {
     match read(line, octets) {
-        Line::Bad => desk.filled(number::answer(out, desk.used, line, octets, desk.explains)),
-        Line::Start => begin(desk, line, out),
-        Line::Event(clock, request) => handle(desk, clock, request, octets, out),
-        Line::Save(size) => desk.filled(keep(desk, size, out)),
-        Line::Reload(n) => restore(desk, octets, n, out),
+        Line::Bad => desk.filled(number::answer(rt, out, desk.used, line, octets, desk.explains)),
+        Line::Start => begin(rt, desk, line, out),
+        Line::Event(clock, request) => handle(rt, desk, clock, request, octets, out),
+        Line::Save(size) => desk.filled(keep(rt, desk, size, out)),
+        Line::Reload(n) => restore(rt, desk, octets, n, out),
     }
 }
 
 // The lines that the first `whole` octets of the input are.
 fn serve(
+    rt: &impl Print,
     mut desk: Desk,
     input: &[u8],
     whole: usize,
@@ -337,7 +360,7 @@ fn serve(
     let mut at: usize = 0;
     while at < whole {
         let end = script::place_of(b'\n', input, at);
-        desk = take(desk, &input[at..end], octets, out);
+        desk = take(rt, desk, &input[at..end], octets, out);
         at = end + 1;
     }
     desk
@@ -358,28 +381,45 @@ fn chunks_left(left: u64, is_open: bool, is_written: bool) -> u64
 }
 
 // All of the script. A proved loop has to end, and nothing says that the input does: so it counts down, from a number that no run uses up.
-fn run(explains: bool, input: &mut [u8; 131072], octets: &mut [u8; 4096], out: &mut [u8; 65536]) {
+fn run(
+    rt: &impl Print,
+    source: &mut impl Read,
+    explains: bool,
+    input: &mut [u8; 131072],
+    octets: &mut [u8; 4096],
+    out: &mut [u8; 65536],
+) {
     let mut desk = Desk::new(explains);
     let mut chunk = Chunk::none();
     let mut left: u64 = 1099511627776;
     while left > 0 {
-        chunk = lines::next(input, chunk);
-        desk = serve(desk, input, chunk.whole, octets, out);
-        left = chunks_left(left, chunk.open, texts::flush(out, desk.used));
+        chunk = lines::next(source, input, chunk);
+        desk = serve(rt, desk, input, chunk.whole, octets, out);
+        left = chunks_left(left, chunk.open, texts::flush(rt, out, desk.used));
         desk.used = 0;
     }
 }
 
 // If the first argument is `explain`.
-fn asks_to_explain() -> bool {
-    let mut word = io::buffer();
-    let n = os::arg(1, &mut word);
-    octets::same(&word[..n], b"explain")
+fn asks_to_explain(rt: &impl Env) -> bool {
+    let mut word = [0u8; 4096];
+    match rt.arg(1, &mut word) {
+        Ok(n) => octets::same(&word[..n], b"explain"),
+        Err(_) => false,
+    }
 }
 
-fn main() {
+fn main(rt: HostRuntime) {
     let mut input = [0u8; 131072];
-    let mut octets = io::buffer();
-    let mut out = io::large_buffer();
-    run(asks_to_explain(), &mut input, &mut octets, &mut out);
+    let mut octets = [0u8; 4096];
+    let mut out = [0u8; 65536];
+    let explains = asks_to_explain(&rt);
+    run(
+        &rt,
+        &mut rt.stdin(),
+        explains,
+        &mut input,
+        &mut octets,
+        &mut out,
+    );
 }

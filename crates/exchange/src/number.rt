@@ -10,6 +10,7 @@ use script::Octets;
 
 // Which part of a message or of a record is shown, and in words if answers are explained.
 fn show<'a>(
+    rt: &impl Print,
     out: &mut [u8; 65536],
     at: usize,
     message: &'a [u8],
@@ -21,7 +22,7 @@ fn show<'a>(
 {
     let extent = shown::locate(message, subscription);
     let part = shown::shown(message, subscription);
-    let first = texts::cleared(out, at);
+    let first = texts::cleared(rt, out, at);
     let next = display::put_answer(out, first, extent, part);
     if !explains {
         return next;
@@ -31,6 +32,7 @@ fn show<'a>(
 
 // The same of the first octets of two buffers.
 fn show_front<'a>(
+    rt: &impl Print,
     out: &mut [u8; 65536],
     at: usize,
     octets: &'a [u8],
@@ -42,11 +44,12 @@ fn show_front<'a>(
     requires { (at ≤ 65536) × (n ≤ length octets.now) × (n ≤ 4096) × (k ≤ length subscription.now) × (k ≤ 4096) }
     ensures { result ≤ 65536 }
 {
-    show(out, at, &octets[0..n], &subscription[0..k], explains)
+    show(rt, out, at, &octets[0..n], &subscription[0..k], explains)
 }
 
 // A line whose MESSAGE ends at place `second`, where its RECORD begins behind a blank.
 fn ask(
+    rt: &impl Print,
     out: &mut [u8; 65536],
     at: usize,
     line: &[u8],
@@ -57,18 +60,19 @@ fn ask(
     requires { (at ≤ 65536) × (6 ≤ second) × (second < length line.now) }
     ensures { result ≤ 65536 }
 {
-    let mut record = io::buffer();
+    let mut record = [0u8; 4096];
     match script::read_octets(&line[6..second], octets) {
-        Octets::Bad => texts::put_bad_line(out, at, line, explains),
+        Octets::Bad => texts::put_bad_line(rt, out, at, line, explains),
         Octets::Are(n) => match script::read_octets(&line[second + 1..], &mut record) {
-            Octets::Bad => texts::put_bad_line(out, at, line, explains),
-            Octets::Are(k) => show_front(out, at, octets, n, &record, k, explains),
+            Octets::Bad => texts::put_bad_line(rt, out, at, line, explains),
+            Octets::Are(k) => show_front(rt, out, at, octets, n, &record, k, explains),
         },
     }
 }
 
 // A line that is no event's: one that asks whose number is shown, or one that cannot be read.
 pub(crate) fn answer(
+    rt: &impl Print,
     out: &mut [u8; 65536],
     at: usize,
     line: &[u8],
@@ -79,7 +83,7 @@ pub(crate) fn answer(
     ensures { result ≤ 65536 }
 {
     match display::find(line) {
-        Asked::Other => texts::put_bad_line(out, at, line, explains),
-        Asked::Words(second) => ask(out, at, line, second, octets, explains),
+        Asked::Other => texts::put_bad_line(rt, out, at, line, explains),
+        Asked::Words(second) => ask(rt, out, at, line, second, octets, explains),
     }
 }

@@ -7,30 +7,37 @@ ghost use Rattle.std.specs.Prelude.{◌≤◌, length};
 use slots::Flags;
 
 // Writes out what is in use of the buffer, and answers if it could.
-pub(crate) fn flush(out: &[u8], used: usize) -> bool
+pub(crate) fn flush(rt: &impl Print, out: &[u8], used: usize) -> bool
     requires { used ≤ length out.now }
 {
-    io::write_all(1, &out[0..used])
+    rt.write_all(&out[0..used]).is_ok()
 }
 
 // Makes room for a line: writes the buffer out if it is nearly full.
-pub(crate) fn cleared(out: &[u8], used: usize) -> usize
+pub(crate) fn cleared(rt: &impl Print, out: &[u8], used: usize) -> usize
     requires { used ≤ length out.now }
     ensures { result ≤ 32768 }
 {
     if used <= 32768 {
         return used;
     }
-    flush(out, used);
+    flush(rt, out, used);
     0
 }
 
 // A text, and a note behind it if answers are explained. It makes room first (docs/DECISIONS.md, "The programs").
-fn put(out: &mut [u8; 65536], at: usize, text: &[u8], explains: bool, note: &[u8]) -> usize
+fn put(
+    rt: &impl Print,
+    out: &mut [u8; 65536],
+    at: usize,
+    text: &[u8],
+    explains: bool,
+    note: &[u8],
+) -> usize
     requires { (at ≤ 65536) × (length text.now ≤ 16) × (length note.now ≤ 64) }
     ensures { result ≤ 65536 }
 {
-    let first = cleared(out, at);
+    let first = cleared(rt, out, at);
     let next = octets::put(out, first, text);
     if explains {
         return octets::put(out, next, note);
@@ -46,7 +53,13 @@ fn is_skipped(line: &[u8]) -> bool {
     line[0] == b'#'
 }
 
-pub(crate) fn put_bad_line(out: &mut [u8; 65536], at: usize, line: &[u8], explains: bool) -> usize
+pub(crate) fn put_bad_line(
+    rt: &impl Print,
+    out: &mut [u8; 65536],
+    at: usize,
+    line: &[u8],
+    explains: bool,
+) -> usize
     requires { at ≤ 65536 }
     ensures { result ≤ 65536 }
 {
@@ -54,6 +67,7 @@ pub(crate) fn put_bad_line(out: &mut [u8; 65536], at: usize, line: &[u8], explai
         return at;
     }
     put(
+        rt,
         out,
         at,
         b"bad line\n",
@@ -62,11 +76,17 @@ pub(crate) fn put_bad_line(out: &mut [u8; 65536], at: usize, line: &[u8], explai
     )
 }
 
-pub(crate) fn put_no_table(out: &mut [u8; 65536], at: usize, explains: bool) -> usize
+pub(crate) fn put_no_table(
+    rt: &impl Print,
+    out: &mut [u8; 65536],
+    at: usize,
+    explains: bool,
+) -> usize
     requires { at ≤ 65536 }
     ensures { result ≤ 65536 }
 {
     put(
+        rt,
         out,
         at,
         b"no table\n",
@@ -75,11 +95,17 @@ pub(crate) fn put_no_table(out: &mut [u8; 65536], at: usize, explains: bool) -> 
     )
 }
 
-pub(crate) fn put_touched(out: &mut [u8; 65536], at: usize, explains: bool) -> usize
+pub(crate) fn put_touched(
+    rt: &impl Print,
+    out: &mut [u8; 65536],
+    at: usize,
+    explains: bool,
+) -> usize
     requires { at ≤ 65536 }
     ensures { result ≤ 65536 }
 {
     put(
+        rt,
         out,
         at,
         b"room touched\n",
@@ -90,6 +116,7 @@ pub(crate) fn put_touched(out: &mut [u8; 65536], at: usize, explains: bool) -> u
 
 // What a start or a reload answers, with a note for each case.
 pub(crate) fn put_opened(
+    rt: &impl Print,
     out: &mut [u8; 65536],
     at: usize,
     refusal: u8,
@@ -101,9 +128,9 @@ pub(crate) fn put_opened(
     ensures { result ≤ 65536 }
 {
     if refusal == 0 {
-        return put(out, at, b"0 - 0 - 0\n", explains, accepted);
+        return put(rt, out, at, b"0 - 0 - 0\n", explains, accepted);
     }
-    put(out, at, b"9 - 0 - 0\n", explains, refused)
+    put(rt, out, at, b"9 - 0 - 0\n", explains, refused)
 }
 
 // How many octets were saved.
@@ -117,6 +144,7 @@ fn put_count(out: &mut [u8; 65536], at: usize, n: usize) -> usize
 }
 
 pub(crate) fn put_saved(
+    rt: &impl Print,
     out: &mut [u8; 65536],
     at: usize,
     refusal: u8,
@@ -126,7 +154,7 @@ pub(crate) fn put_saved(
     requires { (at ≤ 65536) × (length form.now ≤ 4096) }
     ensures { result ≤ 65536 }
 {
-    let first = cleared(out, at);
+    let first = cleared(rt, out, at);
     let next = answers::put_answer(out, first, refusal, form, 0, Flags::none(), false);
     if !explains {
         return next;
