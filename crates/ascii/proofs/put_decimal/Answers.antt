@@ -8,12 +8,6 @@ use Rattle.ascii.specs.Ascii.{decimal_text}
 use Rattle.ascii.proofs.Digits.{few_digits}
 use Rattle.ascii.proofs.put_decimal.Goals as goal
 
-pub put-requires : goal.put-requires
-put-requires c =
-    let d = c.decimal-k in
-    let e : 20 - d.result ≡ length (decimal_text c.args.n) = omega arith in
-    rw (d.ensures.text, e, take-length (decimal_text c.args.n)) (omega (arith, few_digits 19 c.args.n (omega arith)))
-
 pub returns : goal.returns
 returns c =
     let d = c.decimal-k in
