@@ -125,6 +125,7 @@ def before():
 def tight(line):
     """Projections, paths and words of a line of a definition as today's."""
     line = re.sub(r"Rattle·(\w+)·(?:specs|proofs)\.", r"Rattle.\1.", line).replace("Rattle·", "Rattle.")
+    line = re.sub(r"\((\w+(?: \w+)+) ((?:\.\w+ ?)+)\)", lambda m: f"({m.group(1)})" + m.group(2).replace(" ", ""), line)
     after = None
     while after != line:
         after, line = line, re.sub(r"(?<=[ (])(\w+(?:\.\w+)*) \.(\w+)", r"\1.\2", line)
