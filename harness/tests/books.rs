@@ -67,7 +67,8 @@ fn files_that_the_books_name() {
     let root = repository("files");
     let mut books = Books::new(&root);
     books.paths("see `crates/pairs/src/lib.rt` and `crates/NAME/src`, `crates/pairs/src/`\n");
-    books.paths("`crates/pairs/src/main.rt` and `crates/pairs/out/pairs`\n");
+    books.paths("`crates/pairs/src/main.rt` and `target/bin/exchange`\n");
+    books.paths("`crates/pairs/out/pairs` is what a build makes\n");
     fs::remove_dir_all(root).expect("the folder goes");
     assert_eq!(books.looked_up, 3);
     assert_eq!(books.missing, ["line 1: crates/pairs/src/main.rt"]);
