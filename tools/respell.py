@@ -26,6 +26,8 @@ FIXED = {
     "length-told": "length_told", "getD-replicate-default": "get_or-replicate_default", "hold-due": "hold_due_lem", "no-pair": "no_pair_lem", "no-slot": "no_slot_lem", "or-record": "or_record_lem",
     "out-after": "out_after_lem", "pairs-kept": "pairs_kept_lem", "restart-class": "restart_class_lem", "state-due": "state_due_lem",
 }
+# English in comments, and no names there.
+PLAIN = {"thirty-two", "out-of-service", "put-back"}
 # Lemmas that the kit's script gave the name that a definition gets here.
 LEMMAS = {
     "crates/roundtrip/proofs/": ["call_kept"],
@@ -157,7 +159,7 @@ def turn_rt(text, names, foreign, fields):
             out.append(turn(line, names, foreign, fields))
             clause = depth > 0
         elif bare.startswith(("//", "ghost use ")):
-            out.append(turn(line, names, foreign, fields))
+            out.append(turn(line, names, foreign | PLAIN, fields))
         else:
             out.append(line)
     return "".join(out)
@@ -221,8 +223,10 @@ def main(argv):
             said[n] = respelled(n, functions)
     for path in antt_files():
         text = text_of(path)
-        after = turn(text, new, own_modules(text), fields)
-        after = re.sub(r"--.*", lambda m: turn(m.group(0), said, set(), set()), after)
+        parts = re.split(r"(--.*)", text)
+        parts[::2] = [turn(code, new, own_modules(text), fields) for code in parts[::2]]
+        parts[1::2] = [turn(turn(comment, new, own_modules(text) | PLAIN, fields), said, PLAIN, set()) for comment in parts[1::2]]
+        after = "".join(parts)
         if after != text:
             with open(path, "w", encoding="utf-8") as f:
                 f.write(after)

@@ -70,7 +70,7 @@ out_after (Restart named why) o = out_ended why named o
 out_after (Request named second d) o = o
 out_after PutBack o = none_out
 
--- "thirty_two flags, one for each slot, naming exactly the slots meant; with 0 none is set"
+-- "thirty-two flags, one for each slot, naming exactly the slots meant; with 0 none is set"
 abbrev pub no_flags : Flags
 no_flags = record { on = replicate slot_count false }
 

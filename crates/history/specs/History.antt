@@ -183,7 +183,7 @@ marks t (offer label reading room body) u p v = false
 marks t (restart label reading room target) u p v = false
 marks t (put_marks_back label reading room) u p v = false
 
--- ".. until the host puts all marked pairs back at once": a put_marks_back that was not refused
+-- ".. until the host puts all marked pairs back at once": a put-back that was not refused
 abbrev pub is_put_back : Event → Bool
 is_put_back (message label reading room octets) = false
 is_put_back (tick label reading room) = false
@@ -241,7 +241,7 @@ pub record Restarts (t : Table) (label reading room : ℕ) (m : List ℕ) : Type
   pub accepted : (happens t (message label reading room m)).answer.refusal ≡ 0
   pub restart : is_restart m ≡ true
 
--- R-4: nothing but a put_marks_back takes a mark away
+-- R-4: nothing but a put-back takes a mark away
 abbrev pub unmarked : Table → ℕ → ℕ → Way
 unmarked t p v = cond (out_in t p v) out_of_service free
 

@@ -1,4 +1,4 @@
--- "With 1 to 3 go thirty_two flags, one for each slot, naming exactly the slots meant; with 0 none is set." (document 01)
+-- "With 1 to 3 go thirty-two flags, one for each slot, naming exactly the slots meant; with 0 none is set." (document 01)
 --   flag_of                               the flag of a slot
 --   CallAsked, CallAnswered, CallGone    what a flag says of its slot: "1 call asked, 2 call answered, 3 calls gone"
 --   OneFlag                              one flag alone is set, that of the one slot meant

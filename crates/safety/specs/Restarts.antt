@@ -79,7 +79,7 @@ module _ (t : Table) (o : Outcome) where
     pub doubts : (p v : ℕ) → in_pairs u.doubts p v ≡ (not (names which p v) && in_pairs t.doubts p v)
     pub no_reply : o.reply ≡ []
 
-  -- nothing but put_marks_back takes a mark away
+  -- nothing but put-back takes a mark away
   pub record Acknowledged (which : Named) : Type 0 where
     pub ends : Ends which
     pub marks_stay : u.out ≡ t.out
@@ -189,5 +189,5 @@ pub record OwnRestarts (controller : Table → Event → Outcome) (t : Table) : 
       get_or o.reply 5 0 ≡ 0x7D → get_or o.reply 13 0 ≡ cond (is_waiting t.global.state) 61 0
   -- nothing else has a part in it
   pub elsewhere : (e : Event) → Elsewhere e → Leaves t (controller t e)
-  -- "Named pairs while T316 runs, and none_out_of_service pairs, are not free.": no event gives one to a call
+  -- "Named pairs while T316 runs, and out-of-service pairs, are not free.": no event gives one to a call
   pub given_to_none : (e : Event) (p v : ℕ) → IsOut t p v ⊎ UnderRestart t p v → Holds (controller t e).answer.table p v → Holds t p v

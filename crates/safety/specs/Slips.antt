@@ -51,7 +51,7 @@ abbrev pub ReleaseFreesNone : Table → Event → Type 0
 ReleaseFreesNone t e = get_or (happens t e).reply 5 0 ≡ 0x4D → (i : ℕ) (c : Call) (q : State) → HasCall t i c q → StillThere (happens t e).answer.table i c
 
 -- the pair of a live call, in N12 as in every other state, is not the one that a new call gets; nor is a pair in doubt, or, by document 02, R-4,
--- one out of service or named by our RESTART: "Named pairs while T316 runs, and none_out_of_service pairs, are not free."
+-- one out of service or named by our RESTART: "Named pairs while T316 runs, and out-of-service pairs, are not free."
 pub record NotHandedOut (t : Table) : Type 0 where
   pub held : (i : ℕ) (c : Call) (q : State) → HasCall t i c q → free_pair t ≢ Pair c.vpci c.vci
   pub in_doubt : (p v : ℕ) → InDoubt t p v → free_pair t ≢ Pair p v

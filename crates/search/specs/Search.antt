@@ -30,7 +30,7 @@ abbrev pub taken_singly : List Slot → Pairs → OutOfService → GlobalState �
 taken_singly ss ds out g permanents p v =
     some_of (holds_pair p v) ss || (in_pairs ds p v || (in_pairs out.pairs p v || (is_pair p v (one_pair g) || among p v permanents)))
 
--- "Named pairs while T316 runs, and none_out_of_service pairs, are not free."; "Demand 2's "free" now means neither held nor in doubt" (R-2), of
+-- "Named pairs while T316 runs, and out-of-service pairs, are not free."; "Demand 2's "free" now means neither held nor in doubt" (R-2), of
 -- permitted pairs
 abbrev pub taken : List Slot → Pairs → OutOfService → GlobalState → List Entry → ℕ → ℕ → Bool
 taken ss ds out g permanents p v =

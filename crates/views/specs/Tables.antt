@@ -57,7 +57,7 @@ IsOut t p v = is_out t.out p v ≡ true
 abbrev pub UnderRestart : Table → ℕ → ℕ → Type 0
 UnderRestart t p v = under_restart t.global.state p v ≡ true
 
--- "no permitted pair free": ""free" now means neither held nor in doubt"; R-4: "Named pairs while T316 runs, and none_out_of_service pairs, are not
+-- "no permitted pair free": ""free" now means neither held nor in doubt"; R-4: "Named pairs while T316 runs, and out-of-service pairs, are not
 -- free."
 abbrev pub NoneFree : Table → Type 0
 NoneFree t = (p v : ℕ) → permitted t.pool p v ≡ true → Holds t p v ⊎ (InDoubt t p v ⊎ (IsOut t p v ⊎ UnderRestart t p v))
