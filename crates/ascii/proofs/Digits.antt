@@ -1,16 +1,16 @@
 -- Laws of decimal numbers.
 --   few_digits     how many digits a number has at most
---   Begun, begun_none, begun_more, begun_all     a number's digits, written from the last to the first
+--   spelled        what `io::decimal` says of its digits makes them the number's text
 -- Assumes nothing.
-use Prim.Native.Nat.{ℕ, zero, suc, ◌+◌, ◌-◌, ◌/◌, ◌%◌, ◌^◌, ◌≤◌, ◌<◌}
+use Prim.Native.Nat.{ℕ, zero, suc, ◌+◌, ◌*◌, ◌-◌, ◌/◌, ◌%◌, ◌^◌, ◌≤◌, ◌<◌}
 use native.Mathlib.Omega.{arith}
-use native.Mathlib.Nat.{pow-suc}
-use mathlib.Core.Path.{◌≡◌, refl, ◌∙◌}
-use mathlib.Core.List.{List, [], ◌∷◌, ◌++◌, append_assoc, append-nil}
+use native.Mathlib.Nat.{pow-suc, one-le-pow}
+use mathlib.Core.Path.{◌≡◌, ◌∙◌}
 use lib.Dec.{ltb}
-use lib.ListN.{length, length-append, drop, set, length-set, drop_of_length-le}
+use lib.ListN.{length, length-append}
 use borrow.Author.Tests.{lt-ltb, le-ltb}
 use Rattle.octets.proofs.Cases.{by_test}
+use Rattle.io.specs.Digits.{last_digits, hex_digit_ascii, IsDigitCount}
 use Rattle.ascii.specs.Ascii.{decimal_within, decimal_text}
 
 few_within : (k steps n : ℕ) → n < 10 ^ suc k → length (decimal_within steps n) ≤ suc k
@@ -24,44 +24,32 @@ pub few_digits : (k n : ℕ) → n < 10 ^ suc k → length (decimal_text n) ≤ 
 unfolding decimal_text
 few_digits k n h = few_within k 19 n h
 
--- after a store at j, the list from j on begins with what was stored
-drop-set : (t : List ℕ) (j g : ℕ) → j < length t → drop j (set t j g) ≡ g ∷ drop (suc j) t
-drop-set [] j g h = absurd (omega arith)
-drop-set (x ∷ xs) zero g h = refl
-drop-set (x ∷ xs) (suc j) g h = drop-set xs j g (omega arith)
+last : (n : ℕ) → hex_digit_ascii (n % 10) ≡ 48 + n % 10
+last n = rw (lt-ltb (n % 10) 10 (omega arith))
 
--- The digits at the end of a list, from the last to the first: those at `at` and before are still to write.
-pub record Begun (n at rest : ℕ) (digits : List ℕ) : Type 0 where
-  pub within : at < length digits
-  pub full : length digits ≡ 20
-  pub few : rest < 10 ^ suc at
-  pub text : decimal_text n ≡ decimal_within at rest ++ drop (suc at) digits
+only : (n : ℕ) → n < 10 → hex_digit_ascii (n % 10) ≡ 48 + n
+only n h = last n ∙ omega arith
 
-pub begun_none : (n : ℕ) (digits : List ℕ) → n < 10 ^ 20 → length digits ≡ 20 → Begun n 19 n digits
+least : (n k : ℕ) → IsDigitCount 10 1 n (suc (suc k)) → 10 ^ k * 10 ≤ n
+least n k f =
+    let e : suc (suc k) - 1 ≡ suc k = omega arith in
+    rw (e, pow-suc 10 k) at (f.2 (omega arith))
+
+-- without its last digit a number has one digit fewer
+tenth : (n k : ℕ) → IsDigitCount 10 1 n (suc (suc k)) → IsDigitCount 10 1 (n / 10) (suc k)
+tenth n k f =
+    let e : suc k - 1 ≡ k = omega arith in
+    (omega arith, omega (arith, pow-suc 10 (suc k)), λ h. rw e (omega (arith, least n k f)))
+
+spelled_within : (k steps n : ℕ) → n < 10 ^ suc steps → IsDigitCount 10 1 n k → last_digits 10 k n ≡ decimal_within steps n
+spelled_within zero steps n h f = absurd (omega (arith, f.0))
+spelled_within (suc zero) zero n h f = rw (only n h)
+spelled_within (suc zero) (suc steps) n h f = rw (lt-ltb n 10 f.1, only n f.1)
+spelled_within (suc (suc k)) zero n h f = absurd (omega (arith, least n k f, one-le-pow k 10 (omega arith)))
+spelled_within (suc (suc k)) (suc steps) n h f =
+    let many : 10 ≤ n = omega (arith, least n k f, one-le-pow k 10 (omega arith)) in
+    rw (le-ltb n 10 many, last n, ← spelled_within (suc k) steps (n / 10) (omega (arith, pow-suc 10 (suc steps))) (tenth n k f))
+
+pub spelled : (n k : ℕ) → n < 10 ^ 20 → IsDigitCount 10 1 n k → last_digits 10 k n ≡ decimal_text n
 unfolding decimal_text
-begun_none n digits h e = record {
-  within = omega arith;
-  full = e;
-  few = h;
-  text = rw (drop_of_length-le digits {i = 20} (omega arith), append-nil);
-}
-
--- one digit more
-pub begun_more : (n at rest : ℕ) (digits : List ℕ) → 10 ≤ rest → Begun n at rest digits
-    → (0 < at) × Begun n (at - 1) (rest / 10) (set digits at (48 + rest % 10))
-begun_more n zero rest digits h b = absurd (omega (arith, b.few))
-begun_more n (suc k) rest digits h b =
-    let e : suc k - 1 ≡ k = omega arith in (
-      omega arith,
-      rw e (record {
-        within = simp length-set (omega (arith, b.within));
-        full = simp length-set b.full;
-        few = omega (arith, b.few, pow-suc 10 (suc k));
-        text = b.text ∙ rw (le-ltb rest 10 h, drop-set digits (suc k) (48 + rest % 10) b.within, append_assoc);
-      }),
-    )
-
--- the first digit
-pub begun_all : (n at rest : ℕ) (digits : List ℕ) → rest < 10 → Begun n at rest digits → drop at (set digits at (48 + rest)) ≡ decimal_text n
-begun_all n zero rest digits h b = rw (drop-set digits zero (48 + rest) b.within, b.text)
-begun_all n (suc k) rest digits h b = rw (drop-set digits (suc k) (48 + rest) b.within, b.text, lt-ltb rest 10 h)
+spelled n k h f = spelled_within k 19 n h f
