@@ -8,7 +8,7 @@ use mathlib.Core.Path.{◌≡◌, refl}
 use mathlib.Core.Bool.{Bool, true, false, beq}
 use lib.Dec.{eqb}
 use borrow.Author.Tests.{eqb-true}
-use Rattle.channels.specs.Channels.{is_entry}
+use Rattle.channels.specs.Channels.{is_pair}
 use Rattle.channels.proofs.Cases.{by_test, clash}
 use Rattle.calls.specs.declared.Call.{Call}
 use Rattle.calls.specs.declared.State.{State}
@@ -52,6 +52,6 @@ hold_named_once n m r s (Live c q) e g =
 pub call_named_once : (n m : Bool) (r q : ℕ) (s : Slot) → is_call n r s ≡ true → is_call m q s ≡ true → (n ≡ m) × (r ≡ q)
 call_named_once n m r q s e g = hold_named_once n m r q s.hold e g
 
-pub hold_pair : (p v : ℕ) (h : Hold) → is_entry p v (record { channel = pair_of h }) ≡ pair_held p v h
+pub hold_pair : (p v : ℕ) (h : Hold) → is_pair p v (pair_of h) ≡ pair_held p v h
 hold_pair p v Empty = refl
 hold_pair p v (Live c q) = refl

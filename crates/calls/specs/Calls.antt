@@ -6,11 +6,9 @@
 --   is_named                           if it holds a call on a pair that a RESTART names
 --   emptied                           a slot emptied if it passes a test
 -- Assumes nothing.
-use Rattle.std.specs.Prelude.{ℕ, Bool, true, false, cond, not, ◌&&◌, eqb}
+use Rattle.std.specs.Prelude.{ℕ, Bool, true, false, cond, not, ◌&&◌, eqb, Option, Some, None}
 use Rattle.std.specs.Bool.{beq}
-use Rattle.channels.specs.declared.Channel.{Channel}
-use Rattle.channels.specs.declared.Channel.TheVariants.{None, Pair}
-use Rattle.channels.specs.declared.Entry.{Entry}
+use Rattle.channels.specs.declared.Pair.{Pair}
 use Rattle.channels.specs.declared.Named.{Named}
 use Rattle.channels.specs.declared.Named.TheVariants as named
 use Rattle.calls.specs.declared.State.{State}
@@ -55,22 +53,22 @@ is_call n r s = refers_to n r s.hold
 
 abbrev pub pair_held : ℕ → ℕ → Hold → Bool
 pair_held p v Empty = false
-pair_held p v (Live c q) = eqb c.vpci p && eqb c.vci v
+pair_held p v (Live c q) = eqb c.pair.vpci p && eqb c.pair.vci v
 
 abbrev pub holds_pair : ℕ → ℕ → Slot → Bool
 holds_pair p v s = pair_held p v s.hold
 
-abbrev pub pair_of : Hold → Channel
+abbrev pub pair_of : Hold → Option Pair
 pair_of Empty = None
-pair_of (Live c q) = Pair c.vpci c.vci
+pair_of (Live c q) = Some c.pair
 
-abbrev pub entry_of : Slot → Entry
-entry_of s = record { channel = pair_of s.hold }
+abbrev pub entry_of : Slot → Option Pair
+entry_of s = pair_of s.hold
 
 -- "calls on the pair, or all calls for 82"
 abbrev pub is_named : Named → Slot → Bool
 is_named named.All s = is_live s
-is_named (named.Pair p v) s = holds_pair p v s
+is_named (named.One pv) s = holds_pair pv.vpci pv.vci s
 
 -- ""Gone" empties slot and pair"
 abbrev pub emptied : (Slot → Bool) → Slot → Slot

@@ -3,19 +3,18 @@
 //   T303, T308, T310              how long each timer runs
 //   Clearing, State, Call         a call, and the state that it is in; a state's timer is part of the state
 //   Hold, Slot                    an empty slot, or a live call with its state
-//   Due                           a deadline, or none
 //   State::number, due            the paper's number of a state, and its timer's deadline
-//   Due::by                       if a deadline has come
+//   is_due                        if a deadline has come
 //   Slot::..                      what one slot holds
 // A slot is 32 octets long: what is small stands first in a variant, beside its tag.
 // Nothing here has a `requires`. Assumes nothing.
 #![tactic(auto)]
 
-ghost use Rattle.std.specs.Prelude.{◌≡◌, true, false};
+ghost use Rattle.std.specs.Prelude.{◌≡◌};
 ghost use Rattle.calls.specs.Calls.{state_number, no_slot, live_slot, is_empty, is_live, is_call, holds_pair, entry_of, is_named, emptied};
 ghost use Rattle.calls.specs.Timers.{state_due, deadline_of, due_by};
 
-use channels::{Channel, Entry, Named};
+use channels::{Named, Pair};
 
 pub const LARGEST_READING: u64 = 4000000000000;
 
@@ -48,8 +47,7 @@ pub enum State {
 #[derive(Clone, Copy)]
 pub struct Call {
     pub network: bool,
-    pub vpci: u16,
-    pub vci: u16,
+    pub pair: Pair,
     pub reference: u32,
 }
 
@@ -62,13 +60,6 @@ pub enum Hold {
 #[derive(Clone, Copy)]
 pub struct Slot {
     pub hold: Hold,
-}
-
-// A deadline, or none.
-#[derive(Clone, Copy)]
-pub enum Due {
-    Never,
-    At(u64),
 }
 
 impl State {
@@ -85,122 +76,86 @@ impl State {
         }
     }
 
-    pub fn due(self) -> Due
+    pub fn due(self) -> Option<u64>
         ensures { result ≡ state_due self }
     {
         match self {
-            State::N3 => Due::Never,
-            State::N6(deadline) => Due::At(deadline),
-            State::N9(deadline) => Due::At(deadline),
-            State::N10 => Due::Never,
-            State::N12(_, deadline) => Due::At(deadline),
+            State::N3 | State::N10 => None,
+            State::N6(deadline) | State::N9(deadline) | State::N12(_, deadline) => Some(deadline),
         }
     }
 }
 
-impl Due {
-    // Due: the reading is at least the deadline.
-    pub fn by(self, reading: u64) -> bool
-        ensures { result ≡ due_by reading self }
-    {
-        match self {
-            Due::Never => false,
-            Due::At(deadline) => deadline <= reading,
-        }
-    }
+// Due: the reading is at least the deadline.
+pub fn is_due(deadline: Option<u64>, reading: u64) -> bool
+    ensures { result ≡ due_by reading deadline }
+{
+    deadline.is_some_and(|deadline| deadline <= reading)
 }
 
 impl Slot {
     pub fn empty() -> Slot
         ensures { result ≡ no_slot }
     {
-        let hold = Hold::Empty;
-        Slot { hold: hold }
+        Slot { hold: Hold::Empty }
     }
 
     // The slot of a call in a state.
     pub fn live(call: Call, state: State) -> Slot
         ensures { result ≡ live_slot call state }
     {
-        let hold = Hold::Live(call, state);
-        Slot { hold: hold }
+        Slot {
+            hold: Hold::Live(call, state),
+        }
     }
 
     pub fn is_empty(self) -> bool
         ensures { result ≡ is_empty self }
     {
-        let hold = self.hold;
-        match hold {
-            Hold::Empty => true,
-            Hold::Live(_, _) => false,
-        }
+        matches!(self.hold, Hold::Empty)
     }
 
     pub fn is_live(self) -> bool
         ensures { result ≡ is_live self }
     {
-        let hold = self.hold;
-        match hold {
-            Hold::Empty => false,
-            Hold::Live(_, _) => true,
-        }
+        !self.is_empty()
     }
 
     // If it holds the call with that side and reference.
     pub fn is_call(self, network: bool, reference: u32) -> bool
         ensures { result ≡ is_call network reference self }
     {
-        let hold = self.hold;
-        match hold {
+        match self.hold {
             Hold::Empty => false,
-            Hold::Live(call, _) => {
-                if call.network == network {
-                    return call.reference == reference;
-                }
-                false
-            }
+            Hold::Live(call, _) => call.network == network && call.reference == reference,
         }
     }
 
-    pub fn holds_pair(self, vpci: u16, vci: u16) -> bool
-        ensures { result ≡ holds_pair vpci vci self }
+    pub fn holds_pair(self, pair: Pair) -> bool
+        ensures { result ≡ holds_pair pair.vpci pair.vci self }
     {
-        let hold = self.hold;
-        match hold {
+        match self.hold {
             Hold::Empty => false,
-            Hold::Live(call, _) => {
-                if call.vpci == vpci {
-                    return call.vci == vci;
-                }
-                false
-            }
+            Hold::Live(call, _) => call.pair == pair,
         }
     }
 
     // The pair that its call holds.
-    pub fn entry(self) -> Entry
+    pub fn entry(self) -> Option<Pair>
         ensures { result ≡ entry_of self }
     {
-        let hold = self.hold;
-        match hold {
-            Hold::Empty => {
-                let none = Channel::None;
-                Entry { channel: none }
-            }
-            Hold::Live(call, _) => {
-                let pair = Channel::Pair(call.vpci, call.vci);
-                Entry { channel: pair }
-            }
+        match self.hold {
+            Hold::Empty => None,
+            Hold::Live(call, _) => Some(call.pair),
         }
     }
 
     // The deadline of its timer.
-    pub fn due(self) -> Due
+    pub fn due(self) -> Option<u64>
         ensures { result ≡ deadline_of self }
     {
-        let hold = self.hold;
-        match hold {
-            Hold::Empty => Due::Never,
+        match self.hold {
+            Hold::Empty => None,
             Hold::Live(_, state) => state.due(),
         }
     }
@@ -211,7 +166,7 @@ impl Slot {
     {
         match named {
             Named::All => self.is_live(),
-            Named::Pair(vpci, vci) => self.holds_pair(vpci, vci),
+            Named::One(pair) => self.holds_pair(pair),
         }
     }
 
@@ -220,8 +175,9 @@ impl Slot {
         ensures { result ≡ emptied (is_named named) self }
     {
         if self.is_named(named) {
-            return Slot::empty();
+            Slot::empty()
+        } else {
+            self
         }
-        self
     }
 }

@@ -1,3 +1,4 @@
+pub mod Parts
 pub mod Cases
 pub mod Some
 pub mod Walk

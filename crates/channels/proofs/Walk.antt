@@ -2,6 +2,7 @@
 --   zero_range                     what an array of ranges has behind its end
 --   lowest_here, lowest_end       the range at hand, and none left
 -- Assumes nothing.
+use Rattle.std.specs.Prelude.{None}
 use Prim.Native.Nat.{ℕ, ◌+◌, ◌-◌, ◌≤◌, ◌<◌}
 use mathlib.Core.Path.{◌≡◌}
 use mathlib.Core.Bool.{Bool}
@@ -10,7 +11,6 @@ use native.Mathlib.Numerals.{add-one}
 use lib.ListN.{length, drop, get_or, drop_of_length-le}
 use lib.Seq.{drop-cons}
 use Rattle.channels.specs.Channels.{scan, lowest}
-use Rattle.channels.specs.declared.Channel.TheVariants.{None}
 use Rattle.channels.specs.declared.Range.{Range}
 
 abbrev pub zero_range : Range

@@ -1,17 +1,15 @@
 -- Channels: what is permitted, and the lowest free pair.
 --   range_count, permanent_count  how many ranges and permanent pairs there can be
---   is_pair, is_entry, among      if a channel, an entry, or some entry of a list is the pair of VPCI p and VCI v
+--   pair, is_pair, among          a pair of a VPCI and a VCI; if a place, or some place of a list, holds the pair of VPCI p and VCI v
 --   in_range, in_ranges           if a range, or some range of a list, has the pair
 --   permanent, permitted        of a pool
 --   scan, lowest                the lowest pair of a list of ranges that a test does not name as taken
 --   known_vpci                   if a VPCI stands in a range or in a permanent pair
 --   empty_pool                   the pool that permits nothing
 -- Lists are of any length, and `lowest` is over any test. Assumes nothing.
-use Rattle.std.specs.Prelude.{ℕ, zero, suc, ◌+◌, ◌-◌, Bool, false, cond, not, ◌&&◌, ◌||◌, List, [], ◌∷◌, eqb, leb, replicate}
-use Rattle.channels.specs.Some.{some_of}
-use Rattle.channels.specs.declared.Channel.{Channel}
-use Rattle.channels.specs.declared.Channel.TheVariants.{None, Pair}
-use Rattle.channels.specs.declared.Entry.{Entry}
+use Rattle.std.specs.Prelude.{ℕ, zero, suc, ◌+◌, ◌-◌, Bool, false, cond, not, ◌&&◌, ◌||◌, List, [], ◌∷◌, eqb, leb, replicate, Option, Some, None}
+use Rattle.std.specs.List.{list_any}
+use Rattle.channels.specs.declared.Pair.{Pair}
 use Rattle.channels.specs.declared.Range.{Range}
 use Rattle.channels.specs.declared.Pool.{Pool}
 
@@ -23,22 +21,22 @@ abbrev pub permanent_count : ℕ
 permanent_count = 8
 
 -- a pair is a VPCI and a VCI
-abbrev pub is_pair : ℕ → ℕ → Channel → Bool
+abbrev pub pair : ℕ → ℕ → Pair
+pair p v = record { vpci = p; vci = v }
+
+abbrev pub is_pair : ℕ → ℕ → Option Pair → Bool
 is_pair p v None = false
-is_pair p v (Pair q w) = eqb q p && eqb w v
+is_pair p v (Some qw) = eqb qw.vpci p && eqb qw.vci v
 
-abbrev pub is_entry : ℕ → ℕ → Entry → Bool
-is_entry p v e = is_pair p v e.channel
-
-abbrev pub among : ℕ → ℕ → List Entry → Bool
-among p v es = some_of (is_entry p v) es
+abbrev pub among : ℕ → ℕ → List (Option Pair) → Bool
+among p v es = list_any (is_pair p v) es
 
 -- "three for each range (VPCI, first VCI, last VCI)"
 abbrev pub in_range : ℕ → ℕ → Range → Bool
 in_range p v r = eqb r.vpci p && (leb r.first v && leb v r.last)
 
 abbrev pub in_ranges : ℕ → ℕ → List Range → Bool
-in_ranges p v rs = some_of (in_range p v) rs
+in_ranges p v rs = list_any (in_range p v) rs
 
 -- "A pair is permitted if it is in a range and not permanent."
 abbrev pub permanent : Pool → ℕ → ℕ → Bool
@@ -48,11 +46,11 @@ abbrev pub permitted : Pool → ℕ → ℕ → Bool
 permitted pool p v = in_ranges p v pool.ranges && not (permanent pool p v)
 
 -- "lowest free permitted pair by VPCI and then VCI": the first of n VCIs from v that is not taken, or else the answer of the ranges behind
-abbrev pub scan : (ℕ → ℕ → Bool) → ℕ → ℕ → ℕ → Channel → Channel
+abbrev pub scan : (ℕ → ℕ → Bool) → ℕ → ℕ → ℕ → Option Pair → Option Pair
 scan t p zero v rest = rest
-scan t p (suc n) v rest = cond (t p v) (scan t p n (v + 1) rest) (Pair p v)
+scan t p (suc n) v rest = cond (t p v) (scan t p n (v + 1) rest) (Some (pair p v))
 
-abbrev pub lowest : (ℕ → ℕ → Bool) → List Range → Channel
+abbrev pub lowest : (ℕ → ℕ → Bool) → List Range → Option Pair
 lowest t [] = None
 lowest t (r ∷ rs) = scan t r.vpci ((r.last + 1) - r.first) r.first (lowest t rs)
 
@@ -61,17 +59,14 @@ abbrev pub spans_vpci : ℕ → Range → Bool
 spans_vpci p r = eqb r.vpci p && leb r.first r.last
 
 abbrev pub spanned_vpci : ℕ → List Range → Bool
-spanned_vpci p rs = some_of (spans_vpci p) rs
+spanned_vpci p rs = list_any (spans_vpci p) rs
 
-abbrev pub has_vpci : ℕ → Channel → Bool
-has_vpci p None = false
-has_vpci p (Pair q w) = eqb q p
+abbrev pub names_vpci : ℕ → Option Pair → Bool
+names_vpci p None = false
+names_vpci p (Some qw) = eqb qw.vpci p
 
-abbrev pub names_vpci : ℕ → Entry → Bool
-names_vpci p e = has_vpci p e.channel
-
-abbrev pub named_vpci : ℕ → List Entry → Bool
-named_vpci p es = some_of (names_vpci p) es
+abbrev pub named_vpci : ℕ → List (Option Pair) → Bool
+named_vpci p es = list_any (names_vpci p) es
 
 abbrev pub known_vpci : Pool → ℕ → Bool
 known_vpci pool p = spanned_vpci p pool.ranges || named_vpci p pool.permanents
@@ -80,8 +75,5 @@ known_vpci pool p = spanned_vpci p pool.ranges || named_vpci p pool.permanents
 abbrev pub no_range : Range
 no_range = record { vpci = 0; first = 1; last = 0 }
 
-abbrev pub no_entry : Entry
-no_entry = record { channel = None }
-
 abbrev pub empty_pool : Pool
-empty_pool = record { ranges = replicate range_count no_range; permanents = replicate permanent_count no_entry }
+empty_pool = record { ranges = replicate range_count no_range; permanents = replicate permanent_count None }

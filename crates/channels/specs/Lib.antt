@@ -1,3 +1,2 @@
-pub mod Some
 pub mod Channels
 pub mod Order

@@ -1,23 +1,10 @@
--- The order of entries by VPCI and then VCI.
---   is_none                    if an entry has no pair
---   entry_before               if an entry comes before another: no pair comes behind every pair
+-- The order of pairs by VPCI and then VCI.
+--   channel_before             if a pair comes before another: no pair comes behind every pair
 -- Assumes nothing.
-use Rattle.std.specs.Prelude.{Bool, true, false, ◌&&◌, ◌||◌, eqb, ltb}
-use Rattle.channels.specs.declared.Channel.{Channel}
-use Rattle.channels.specs.declared.Channel.TheVariants.{None, Pair}
-use Rattle.channels.specs.declared.Entry.{Entry}
+use Rattle.std.specs.Prelude.{Bool, true, false, ◌&&◌, ◌||◌, eqb, ltb, Option, Some, None}
+use Rattle.channels.specs.declared.Pair.{Pair}
 
-abbrev pub no_channel : Channel → Bool
-no_channel None = true
-no_channel (Pair p v) = false
-
-abbrev pub is_none : Entry → Bool
-is_none e = no_channel e.channel
-
-abbrev pub channel_before : Channel → Channel → Bool
+abbrev pub channel_before : Option Pair → Option Pair → Bool
 channel_before None d = false
-channel_before (Pair p v) None = true
-channel_before (Pair p v) (Pair q w) = ltb p q || (eqb p q && ltb v w)
-
-abbrev pub entry_before : Entry → Entry → Bool
-entry_before a b = channel_before a.channel b.channel
+channel_before (Some c) None = true
+channel_before (Some c) (Some d) = ltb c.vpci d.vpci || (eqb c.vpci d.vpci && ltb c.vci d.vci)

@@ -1,10 +1,8 @@
 // Channels: permitted ranges, permanent pairs, and a pair.
 //   RANGES, PERMANENTS        how many ranges and permanent pairs there can be
-//   Channel, Entry, Range     a pair of VPCI and VCI or none, one entry of a list of them, one permitted range
+//   Pair, Range               a VPCI and a VCI; one permitted range
 //   Pool, Named               what start permits; the pairs that a RESTART names
-//   Entry::is                 if an entry is a pair
-//   Entry::is_none            if an entry has no pair
-//   Entry::is_before          the order of entries by VPCI and then VCI
+//   is_before                 the order of pairs by VPCI and then VCI, where no pair comes behind every pair
 //   Range::unused             the range without a VCI
 //   Pool::is_permanent        if a pair is permanent
 //   Pool::permits             if a pair is in a range and not permanent
@@ -14,24 +12,18 @@
 #![tactic(auto)]
 
 ghost use Rattle.std.specs.Prelude.{◌≡◌};
-ghost use Rattle.channels.specs.Order.{is_none, entry_before};
-ghost use Rattle.channels.specs.Channels.{is_entry, among, in_range, in_ranges, permitted, spans_vpci, names_vpci, spanned_vpci, named_vpci, known_vpci, no_range, empty_pool};
+ghost use Rattle.channels.specs.Order.{channel_before};
+ghost use Rattle.channels.specs.Channels.{is_pair, names_vpci, among, in_range, in_ranges, permitted, spans_vpci, spanned_vpci, named_vpci, known_vpci, no_range, empty_pool};
 
 pub const RANGES: usize = 4;
 
 pub const PERMANENTS: usize = 8;
 
-// A VPCI and a VCI, or none.
-#[derive(Clone, Copy)]
-pub enum Channel {
-    None,
-    Pair(u16, u16),
-}
-
-// One place of a list of pairs.
-#[derive(Clone, Copy)]
-pub struct Entry {
-    pub channel: Channel,
+// A channel's name: pairs are ordered by VPCI and then VCI.
+#[derive(Clone, Copy, PartialEq, Eq, PartialOrd, Ord)]
+pub struct Pair {
+    pub vpci: u16,
+    pub vci: u16,
 }
 
 // The pairs of one VPCI from a first VCI to a last one. An unused range has first above last: (0, 1, 0).
@@ -46,73 +38,40 @@ pub struct Range {
 #[derive(Clone, Copy)]
 pub struct Pool {
     pub ranges: [Range; RANGES],
-    pub permanents: [Entry; PERMANENTS],
+    pub permanents: [Option<Pair>; PERMANENTS],
 }
 
-// The pairs that a RESTART names: all, or the pair of a VPCI and a VCI.
+// The pairs that a RESTART names: all, or one.
 #[derive(Clone, Copy)]
 pub enum Named {
     All,
-    Pair(u16, u16),
+    One(Pair),
 }
 
-impl Entry {
-    pub fn is(self, vpci: u16, vci: u16) -> bool
-        ensures { result ≡ is_entry vpci vci self }
+impl Pair {
+    // If a list's place holds this pair.
+    pub fn is(self, place: Option<Pair>) -> bool
+        ensures { result ≡ is_pair self.vpci self.vci place }
     {
-        let channel = self.channel;
-        match channel {
-            Channel::None => false,
-            Channel::Pair(p, v) => {
-                if p == vpci {
-                    return v == vci;
-                }
-                false
-            }
-        }
+        place == Some(self)
     }
+}
 
-    pub fn names_vpci(self, vpci: u16) -> bool
-        ensures { result ≡ names_vpci vpci self }
-    {
-        let channel = self.channel;
-        match channel {
-            Channel::None => false,
-            Channel::Pair(p, _) => p == vpci,
-        }
-    }
+// If a place names a pair of this VPCI.
+pub fn names_vpci(place: Option<Pair>, vpci: u16) -> bool
+    ensures { result ≡ names_vpci vpci place }
+{
+    place.is_some_and(|pair| pair.vpci == vpci)
+}
 
-    pub fn is_none(self) -> bool
-        ensures { result ≡ is_none self }
-    {
-        let channel = self.channel;
-        match channel {
-            Channel::None => true,
-            Channel::Pair(_, _) => false,
-        }
-    }
-
-    // By VPCI and then VCI. An entry without a pair comes behind every pair.
-    pub fn is_before(self, other: Entry) -> bool
-        ensures { result ≡ entry_before self other }
-    {
-        let channel = self.channel;
-        let behind = other.channel;
-        match channel {
-            Channel::None => false,
-            Channel::Pair(p, v) => match behind {
-                Channel::None => true,
-                Channel::Pair(q, w) => {
-                    if p < q {
-                        return true;
-                    }
-                    if p == q {
-                        return v < w;
-                    }
-                    false
-                }
-            },
-        }
+// By VPCI and then VCI. No pair comes behind every pair.
+pub fn is_before(place: Option<Pair>, other: Option<Pair>) -> bool
+    ensures { result ≡ channel_before place other }
+{
+    match (place, other) {
+        (None, _) => false,
+        (Some(_), None) => true,
+        (Some(pair), Some(behind)) => pair < behind,
     }
 }
 
@@ -127,25 +86,16 @@ impl Range {
         }
     }
 
-    pub fn has(self, vpci: u16, vci: u16) -> bool
-        ensures { result ≡ in_range vpci vci self }
+    pub fn has(self, pair: Pair) -> bool
+        ensures { result ≡ in_range pair.vpci pair.vci self }
     {
-        if self.vpci != vpci {
-            return false;
-        }
-        if vci < self.first {
-            return false;
-        }
-        vci <= self.last
+        self.vpci == pair.vpci && self.first <= pair.vci && pair.vci <= self.last
     }
 
     pub fn spans_vpci(self, vpci: u16) -> bool
         ensures { result ≡ spans_vpci vpci self }
     {
-        if self.vpci == vpci {
-            return self.first <= self.last;
-        }
-        false
+        self.vpci == vpci && self.first <= self.last
     }
 }
 
@@ -154,90 +104,46 @@ impl Pool {
     pub fn empty() -> Pool
         ensures { result ≡ empty_pool }
     {
-        let range = Range::unused();
-        let entry = Entry {
-            channel: Channel::None,
-        };
-        let ranges = [range; RANGES];
-        let permanents = [entry; PERMANENTS];
         Pool {
-            ranges: ranges,
-            permanents: permanents,
+            ranges: [Range::unused(); RANGES],
+            permanents: [None; PERMANENTS],
         }
     }
 
-    pub fn is_permanent(self, vpci: u16, vci: u16) -> bool
-        ensures { result ≡ among vpci vci self.permanents }
+    pub fn is_permanent(self, pair: Pair) -> bool
+        ensures { result ≡ among pair.vpci pair.vci self.permanents }
     {
-        let mut i: usize = 0;
-        while i < PERMANENTS {
-            let e = self.permanents[i];
-            if e.is(vpci, vci) {
-                return true;
-            }
-            i += 1;
-        }
-        false
+        self.permanents.iter().any(|place| pair.is(*place))
     }
 
     // If some range has the pair.
-    pub fn in_ranges(self, vpci: u16, vci: u16) -> bool
-        ensures { result ≡ in_ranges vpci vci self.ranges }
+    pub fn in_ranges(self, pair: Pair) -> bool
+        ensures { result ≡ in_ranges pair.vpci pair.vci self.ranges }
     {
-        let mut i: usize = 0;
-        while i < RANGES {
-            let range = self.ranges[i];
-            if range.has(vpci, vci) {
-                return true;
-            }
-            i += 1;
-        }
-        false
+        self.ranges.iter().any(|range| range.has(pair))
     }
 
-    pub fn permits(self, vpci: u16, vci: u16) -> bool
-        ensures { result ≡ permitted self vpci vci }
+    pub fn permits(self, pair: Pair) -> bool
+        ensures { result ≡ permitted self pair.vpci pair.vci }
     {
-        if self.in_ranges(vpci, vci) {
-            return !self.is_permanent(vpci, vci);
-        }
-        false
+        self.in_ranges(pair) && !self.is_permanent(pair)
     }
 
     pub fn range_spans_vpci(self, vpci: u16) -> bool
         ensures { result ≡ spanned_vpci vpci self.ranges }
     {
-        let mut i: usize = 0;
-        while i < RANGES {
-            let range = self.ranges[i];
-            if range.spans_vpci(vpci) {
-                return true;
-            }
-            i += 1;
-        }
-        false
+        self.ranges.iter().any(|range| range.spans_vpci(vpci))
     }
 
     pub fn permanent_names_vpci(self, vpci: u16) -> bool
         ensures { result ≡ named_vpci vpci self.permanents }
     {
-        let mut i: usize = 0;
-        while i < PERMANENTS {
-            let e = self.permanents[i];
-            if e.names_vpci(vpci) {
-                return true;
-            }
-            i += 1;
-        }
-        false
+        self.permanents.iter().any(|place| names_vpci(*place, vpci))
     }
 
     pub fn knows_vpci(self, vpci: u16) -> bool
         ensures { result ≡ known_vpci self vpci }
     {
-        if self.range_spans_vpci(vpci) {
-            return true;
-        }
-        self.permanent_names_vpci(vpci)
+        self.range_spans_vpci(vpci) || self.permanent_names_vpci(vpci)
     }
 }

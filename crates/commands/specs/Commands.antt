@@ -2,6 +2,7 @@
 --   connected, cleared
 --   network_call, offered_on     the call of an offer, and its SETUP on a pair
 -- The refusals are in crate refusals, the events in control. Assumes nothing.
+use Rattle.channels.specs.Channels.{pair}
 use Rattle.std.specs.Prelude.{ℕ, ◌+◌, true, false, not}
 use Rattle.calls.specs.declared.State.TheVariants.{N6, N10}
 use Rattle.calls.specs.declared.Call.{Call}
@@ -26,7 +27,7 @@ cleared reading i cause Empty = quiet
 cleared reading i cause (Live c q) = on_call i c (not c.network) c.reference (released reading false cause false)
 
 abbrev pub network_call : ℕ → ℕ → ℕ → Call
-network_call r p v = record { network = true; vpci = p; vci = v; reference = r }
+network_call r p v = record { network = true; pair = pair p v; reference = r }
 
 -- "offer: .. SETUP with 5A and then the body; N6, T303." "An accepted offer also answers notice 1."
 abbrev pub offered_on : ℕ → ℕ → ℕ → ℕ → ℕ → Effect

@@ -4,20 +4,16 @@
 --   offered_at, offered   what an offer does: with a slot and a pair, with a slot
 -- Each event is the whole answer, the table and the reply, on any input. What is refused is in refusals, what connect, clear and offer
 -- do in commands. Assumes nothing.
-use Rattle.std.specs.Prelude.{ℕ, cond, false, List, [], replicate}
-use Rattle.channels.specs.declared.Channel.{Channel}
-use Rattle.channels.specs.declared.Channel.TheVariants.{None, Pair}
+use Rattle.header.specs.declared.Header.{Header}
+use Rattle.std.specs.Prelude.{ℕ, cond, false, List, [], replicate, Option, Some, None}
+use Rattle.channels.specs.declared.Pair.{Pair}
 use Rattle.pairs.specs.Pairs.{no_pairs}
 use Rattle.provisioning.specs.Provisioning.{provision}
 use Rattle.calls.specs.Calls.{no_slot, is_empty}
-use Rattle.first.specs.declared.Found.{Found}
-use Rattle.first.specs.declared.Found.TheVariants.{Nothing, At}
 use Rattle.first.specs.First.{place}
 use Rattle.slots.specs.Slots.{slot_count, hold_at, unused_reference}
 use Rattle.service.specs.declared.GlobalState.TheVariants.{Null}
 use Rattle.service.specs.Service.{none_out}
-use Rattle.header.specs.declared.Head.{Head}
-use Rattle.header.specs.declared.Head.TheVariants.{Ignored, Is}
 use Rattle.header.specs.Header.{head_of}
 use Rattle.effects.specs.declared.Effect.{Effect}
 use Rattle.effects.specs.Effect.{quiet}
@@ -45,9 +41,9 @@ start_of ranges pairs = record {
 }
 
 -- steps 1 and 2: "ignored"; "An accepted event stores its reading, even where the message is ignored."
-abbrev pub heard_by : Table → ℕ → List ℕ → Head → Effect
-heard_by t reading m Ignored = quiet
-heard_by t reading m (Is h) = message_effect t m h reading
+abbrev pub heard_by : Table → ℕ → List ℕ → Option Header → Effect
+heard_by t reading m None = quiet
+heard_by t reading m (Some h) = message_effect t m h reading
 
 abbrev pub message_of : Table → ℕ → ℕ → ℕ → List ℕ → Outcome
 message_of t label reading room m =
@@ -72,13 +68,13 @@ clear_of t label reading room slot cause =
 
 -- "offer: lowest empty slot, lowest free pair, lowest network-originated reference value from 1 not in use" (no slot or no pair was
 -- refused before, with 11 and 12: these cases are never asked)
-abbrev pub offered_at : Table → ℕ → ℕ → Channel → Effect
+abbrev pub offered_at : Table → ℕ → ℕ → Option Pair → Effect
 offered_at t reading i None = quiet
-offered_at t reading i (Pair p v) = offered_on reading i (unused_reference t.slots.all) p v
+offered_at t reading i (Some pv) = offered_on reading i (unused_reference t.slots.all) pv.vpci pv.vci
 
-abbrev pub offered : Table → ℕ → Found → Effect
-offered t reading Nothing = quiet
-offered t reading (At i) = offered_at t reading i (free_pair t)
+abbrev pub offered : Table → ℕ → Option ℕ → Effect
+offered t reading None = quiet
+offered t reading (Some i) = offered_at t reading i (free_pair t)
 
 abbrev pub offer_of : Table → ℕ → ℕ → ℕ → List ℕ → Outcome
 offer_of t label reading room body =

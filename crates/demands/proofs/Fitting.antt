@@ -4,6 +4,7 @@
 --   body-room, body-offered        the body of an accepted offer
 --   Writable, does_writable        everything that an event can decide
 -- Assumes nothing.
+use Rattle.std.specs.Prelude.{Some}
 use Prim.Native.Nat.{ℕ, ◌≤◌, ◌<◌}
 use mathlib.Core.Path.{◌≡◌}
 use mathlib.Core.Bool.{Bool, true, false, ◌&&◌}
@@ -12,10 +13,9 @@ use native.Mathlib.Omega.{arith}
 use lib.Dec.{eqb, ltb}
 use lib.ListN.{length, get_or}
 use borrow.Author.Tests.{ltb-false}
-use Rattle.channels.specs.declared.Channel.TheVariants.{Pair}
 use Rattle.channels.specs.declared.Named.{Named}
 use Rattle.channels.specs.declared.Named.TheVariants as named
-use Rattle.channels.specs.Channels.{permitted}
+use Rattle.channels.specs.Channels.{pair, permitted}
 use Rattle.channels.proofs.Cases.{by_test, both}
 use Rattle.calls.specs.declared.Clearing.{Clearing}
 use Rattle.calls.specs.declared.State.{State}
@@ -247,13 +247,13 @@ module _ (t : Table) (e : Event) (s : Sound t) (references : ReferencesFit t) (o
   permitted-fits : (p v : ℕ) → permitted t.pool p v ≡ true → FitsPair p v
   permitted-fits p v ok = let n = s.numbers p v ok in record { vpci = omega (arith, n.0); vci = omega (arith, n.2) }
 
-  free_fits : (p v : ℕ) → free_pair t ≡ Pair p v → FitsPair p v
+  free_fits : (p v : ℕ) → free_pair t ≡ Some (pair p v) → FitsPair p v
   free_fits p v g = permitted-fits p v (free_permitted t p v g)
 
   -- our RESTART
   own_fits : (which : Named) → Nameable t.pool which → Fitting (restart_of which)
   own_fits named.All n = tt
-  own_fits (named.Pair p v) n = permitted-fits p v n
+  own_fits (named.One pv) n = permitted-fits pv.vpci pv.vci n
 
   pub does_writable : (x : Effect) → view.Does t e x → Writable x (body_of e)
   does_writable x view.nothing = record { reference = omega arith; fits = tt }

@@ -54,10 +54,10 @@ pub record DemandTwo : Type 0 where
   pub writes_octets : (t : Table) (r : Reached t) → CarriedOctets t r → (e : Event) → InOctets e → Octets (happens t e).reply
   pub writes_few : (t : Table) (e : Event) → length (happens t e).reply ≤ reply_room
   -- "No two live calls hold one VPCI/VCI pair"
-  pub never_shared : (t : Table) → Reached t → (i j : ℕ) (c d : Call) (q r : State) → HasCall t i c q → HasCall t j d r → c.vpci ≡ d.vpci → c.vci ≡ d.vci → i ≡ j
+  pub never_shared : (t : Table) → Reached t → (i j : ℕ) (c d : Call) (q r : State) → HasCall t i c q → HasCall t j d r → c.pair.vpci ≡ d.pair.vpci → c.pair.vci ≡ d.pair.vci → i ≡ j
   -- "every assigned VCI lies in 32 to 65535"
-  pub always_in_limits : (t : Table) → Reached t → (i : ℕ) (c : Call) (q : State) → HasCall t i c q → (32 ≤ c.vci) × (c.vci ≤ 65535)
-  pub always_permitted : (t : Table) → Reached t → (i : ℕ) (c : Call) (q : State) → HasCall t i c q → permitted t.pool c.vpci c.vci ≡ true
+  pub always_in_limits : (t : Table) → Reached t → (i : ℕ) (c : Call) (q : State) → HasCall t i c q → (32 ≤ c.pair.vci) × (c.pair.vci ≤ 65535)
+  pub always_permitted : (t : Table) → Reached t → (i : ℕ) (c : Call) (q : State) → HasCall t i c q → permitted t.pool c.pair.vpci c.pair.vci ≡ true
   -- ""no VPCI/VCI available" is sent exactly when a SETUP has passed all earlier checks and no permitted pair is free."
   pub sent_exactly : (t : Table) → Reached t → (e : Event) → SentExactly t e
   pub no_pair_exactly : (t : Table) (label reading room : ℕ) (m : List ℕ) → NoPairExactly t label reading room m

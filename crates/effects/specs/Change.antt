@@ -6,7 +6,7 @@
 --   flags_of, gone_notice, notice_of  the flags and the notice of a change
 -- Assumes nothing.
 use Rattle.std.specs.Prelude.{ℕ, true, false, cond, map, eqb, set, replicate}
-use Rattle.channels.specs.Some.{some_of}
+use Rattle.std.specs.List.{list_any}
 use Rattle.channels.specs.declared.Named.{Named}
 use Rattle.pairs.specs.declared.Pairs.{Pairs}
 use Rattle.pairs.specs.Pairs.{with_pair, unless_named}
@@ -90,7 +90,7 @@ flags_of PutBack ss = no_flags
 
 -- "Notice 3 only if some call went."
 abbrev pub gone_notice : Flags → ℕ
-gone_notice f = cond (some_of is_set f.on) 3 0
+gone_notice f = cond (list_any is_set f.on) 3 0
 
 -- "Where no notice is named it is 0."
 abbrev pub notice_of : Change → Flags → ℕ

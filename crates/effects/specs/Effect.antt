@@ -29,7 +29,7 @@ abbrev pub fated : ℕ → Call → Fate → Change
 fated i c fate.Stay = Keep
 fated i c (fate.To q notice) = Put i (live_slot c q) notice
 fated i c fate.Gone = Put i no_slot 3
-fated i c fate.InDoubt = Doubt i c.vpci c.vci
+fated i c fate.InDoubt = Doubt i c.pair.vpci c.pair.vci
 
 -- a verdict on the call c of slot i; replies about it carry this flag and call reference
 abbrev pub on_call : ℕ → Call → Bool → ℕ → Verdict → Effect

@@ -4,6 +4,7 @@
 --   refused_line     a clock that went back
 --   names-read       names from each table; refusal 10 is a line end's number too
 -- Assumes nothing.
+use Rattle.channels.specs.Channels.{pair}
 use Prim.Native.Nat.{ℕ}
 use mathlib.Core.Path.{◌≡◌, refl}
 use mathlib.Core.Bool.{false}
@@ -21,7 +22,7 @@ use Rattle.explain.specs.Line.{line_text}
 
 -- the first class's call
 abbrev held : State → Slot
-held state = record { hold = Live (record { network = false; vpci = 0; vci = 32; reference = 1 }) state }
+held state = record { hold = Live (record { network = false; pair = pair 0 32; reference = 1 }) state }
 
 abbrev proceeding : List ℕ
 proceeding =

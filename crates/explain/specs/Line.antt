@@ -8,11 +8,9 @@
 --   change_text, slots_text               slots before and after
 --   line_text                            the whole line
 -- Assumes nothing.
-use Rattle.std.specs.Prelude.{ℕ, ◌+◌, Bool, true, false, cond, not, ◌&&◌, ◌||◌, List, [], ◌∷◌, ◌++◌, eqb, ltb, length, take, get_or}
+use Rattle.std.specs.Prelude.{ℕ, ◌+◌, Bool, true, false, cond, not, ◌&&◌, ◌||◌, List, [], ◌∷◌, ◌++◌, eqb, ltb, length, take, get_or, Option, Some, None}
 use Rattle.ascii.specs.Ascii.{word, or_else, decimal_text}
 use Rattle.header.specs.declared.Header.{Header}
-use Rattle.header.specs.declared.Head.{Head}
-use Rattle.header.specs.declared.Head.TheVariants.{Ignored, Is}
 use Rattle.header.specs.Header.{head_of}
 use Rattle.elements.specs.declared.CauseRead.{CauseRead}
 use Rattle.elements.specs.declared.CauseRead.TheVariants.{Absent, Unreadable, Number}
@@ -23,8 +21,6 @@ use Rattle.calls.specs.declared.Call.{Call}
 use Rattle.calls.specs.declared.Hold.{Hold}
 use Rattle.calls.specs.declared.Hold.TheVariants.{Empty, Live}
 use Rattle.calls.specs.declared.Slot.{Slot}
-use Rattle.calls.specs.declared.Due.{Due}
-use Rattle.calls.specs.declared.Due.TheVariants.{Never, At}
 use Rattle.calls.specs.Calls.{state_number, no_slot, empty_hold, refers_to, is_call}
 use Rattle.calls.specs.Timers.{state_due}
 use Rattle.script.specs.declared.Request.{Request}
@@ -51,9 +47,9 @@ found_text Absent = []
 found_text Unreadable = []
 found_text (Number cause) = cause_text cause
 
-abbrev pub head_text : Head → CauseRead → List ℕ
-head_text Ignored cause = word "no message of ours"
-head_text (Is head) cause = header_text head ++ found_text cause
+abbrev pub head_text : Option Header → CauseRead → List ℕ
+head_text None cause = word "no message of ours"
+head_text (Some head) cause = header_text head ++ found_text cause
 
 -- "A MESSAGE": its header, and the cause among the elements behind it
 abbrev pub message_text : List ℕ → List ℕ
@@ -90,8 +86,8 @@ timer_text (N12 clearing deadline) = word " T308 until " ++ decimal_text deadlin
 abbrev pub call_text : Call → State → List ℕ
 call_text call state =
     (word " N" ++ decimal_text (state_number state))
-    ++ (word " VPCI " ++ decimal_text call.vpci)
-    ++ (word " VCI " ++ decimal_text call.vci)
+    ++ (word " VPCI " ++ decimal_text call.pair.vpci)
+    ++ (word " VCI " ++ decimal_text call.pair.vci)
     ++ timer_text state
 
 abbrev pub hold_text : Hold → List ℕ
@@ -101,11 +97,11 @@ hold_text (Live call state) = call_text call state
 abbrev pub slot_text : Slot → List ℕ
 slot_text slot = hold_text slot.hold
 
-abbrev pub same_due : Due → Due → Bool
-same_due Never Never = true
-same_due Never (At e) = false
-same_due (At d) Never = false
-same_due (At d) (At e) = eqb d e
+abbrev pub same_due : Option ℕ → Option ℕ → Bool
+same_due None None = true
+same_due None (Some e) = false
+same_due (Some d) None = false
+same_due (Some d) (Some e) = eqb d e
 
 abbrev pub same_state : State → State → Bool
 same_state p q = eqb (state_number p) (state_number q) && same_due (state_due p) (state_due q)
@@ -122,9 +118,9 @@ same_hold (Live c q) h = same_call c q h
 abbrev pub is_same : Slot → Slot → Bool
 is_same before after = same_hold before.hold after.hold
 
-abbrev pub is_for : Head → Slot → Bool
-is_for Ignored slot = false
-is_for (Is head) slot = is_call head.flag head.reference slot
+abbrev pub is_for : Option Header → Slot → Bool
+is_for None slot = false
+is_for (Some head) slot = is_call head.flag head.reference slot
 
 -- "the message names its call", "connect or clear names its number"
 abbrev pub is_about : Request → List ℕ → ℕ → Slot → Bool

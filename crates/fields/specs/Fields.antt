@@ -2,16 +2,14 @@
 --   two, four, eight              a number in two octets, in four and in eight, high octet first
 --   field                         a tag, the length of the contents, the contents
 --   range_octets                   a permitted range
---   channel_octets, entry_octets    a permanent pair
+--   channel_octets, channel_octets    a permanent pair
 --   reference_octets, state_octets, call_octets     a live call
 --   hold_field                     the field of a slot, none for an empty one
 --   named_octets, request_octets    our RESTART
 -- Assumes nothing.
-use Rattle.std.specs.Prelude.{ℕ, ◌+◌, ◌/◌, ◌%◌, Bool, cond, List, [], ◌∷◌, ◌++◌, leb, length}
+use Rattle.std.specs.Prelude.{ℕ, ◌+◌, ◌/◌, ◌%◌, Bool, cond, List, [], ◌∷◌, ◌++◌, leb, length, Option, Some, None}
 use Rattle.octets.specs.Octets.{high, low}
-use Rattle.channels.specs.declared.Channel.{Channel}
-use Rattle.channels.specs.declared.Channel.TheVariants.{None, Pair}
-use Rattle.channels.specs.declared.Entry.{Entry}
+use Rattle.channels.specs.declared.Pair.{Pair}
 use Rattle.channels.specs.declared.Named.{Named}
 use Rattle.channels.specs.declared.Named.TheVariants as named
 use Rattle.channels.specs.declared.Range.{Range}
@@ -41,12 +39,12 @@ abbrev pub range_octets : Range → List ℕ
 range_octets r = cond (leb r.first r.last) (two r.vpci ++ (two r.first ++ two r.last)) []
 
 -- "one for permanent pairs": VPCI, VCI
-abbrev pub channel_octets : Channel → List ℕ
+abbrev pub channel_octets : Option Pair → List ℕ
 channel_octets None = []
-channel_octets (Pair p v) = two p ++ two v
+channel_octets (Some pv) = two pv.vpci ++ two pv.vci
 
-abbrev pub entry_octets : Entry → List ℕ
-entry_octets e = channel_octets e.channel
+abbrev pub channel_octets : Option Pair → List ℕ
+channel_octets e = channel_octets e
 
 -- a flagged reference: the top bit is set for a network-originated call, the other 23 bits are the value
 abbrev pub reference_octets : Bool → ℕ → List ℕ
@@ -61,7 +59,7 @@ state_octets N10 = 10 ∷ []
 state_octets (N12 k d) = 12 ∷ (eight d ++ (cond k.second 2 1 ∷ k.cause ∷ []))
 
 abbrev pub call_octets : ℕ → Call → State → List ℕ
-call_octets slot c q = slot ∷ (reference_octets c.network c.reference ++ (two c.vpci ++ (two c.vci ++ state_octets q)))
+call_octets slot c q = slot ∷ (reference_octets c.network c.reference ++ (two c.pair.vpci ++ (two c.pair.vci ++ state_octets q)))
 
 -- a live call's field
 abbrev pub hold_field : ℕ → Hold → List ℕ
@@ -71,7 +69,7 @@ hold_field slot (Live c q) = field 4 (call_octets slot c q)
 -- our RESTART (document 02, R-4): if the first or the second T316 runs, its deadline, and for one pair VPCI and VCI
 abbrev pub named_octets : Named → List ℕ
 named_octets named.All = []
-named_octets (named.Pair p v) = two p ++ two v
+named_octets (named.One pv) = two pv.vpci ++ two pv.vci
 
 abbrev pub request_octets : GlobalState → List ℕ
 request_octets Null = []

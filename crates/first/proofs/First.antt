@@ -8,16 +8,17 @@
 --   first-after, place_after, marked-after, some_after     what a search finds after such a change is what it finds before
 --   none_after, length-after    as many flags, and as many elements, after any change
 -- Assumes nothing.
+use Rattle.std.specs.Prelude.{Some, None}
 use Prim.Native.Nat.{ℕ, zero, suc, ◌+◌, ◌-◌, ◌≤◌, ◌<◌}
 use mathlib.Core.Path.{◌≡◌, refl, ap, ◌∙◌}
 use mathlib.Core.Bool.{Bool, true, false}
 use mathlib.Core.List.{List, [], ◌∷◌}
 use native.Mathlib.Omega.{arith}
 use lib.ListN.{length, get_or, set, replicate}
-use Rattle.channels.specs.Some.{some_of}
+use Rattle.std.specs.List.{list_any}
 use Rattle.channels.proofs.Cases.{by_test, clash}
-use Rattle.first.specs.declared.Found.TheVariants.{Nothing, At}
-use Rattle.first.specs.First.{place_from, place, first, upd, none, marked}
+use Rattle.std.specs.List.{position_from}
+use Rattle.first.specs.First.{place, first, upd, none, marked}
 
 -- the first of xs that passes p is at i
 pub record Placed {A : Type 0} (p : A → Bool) (d : A) (xs : List A) (i : ℕ) : Type 0 where
@@ -27,14 +28,14 @@ pub record Placed {A : Type 0} (p : A → Bool) (d : A) (xs : List A) (i : ℕ) 
   pub found : first p d xs ≡ get_or xs i d
   pub changed : (f : A → A) → upd p f xs ≡ set xs i (f (get_or xs i d))
   pub flagged : marked p xs ≡ set (none xs) i true
-  pub some : some_of p xs ≡ true
+  pub some : list_any p xs ≡ true
 
 -- none of xs passes p
 pub record Unplaced {A : Type 0} (p : A → Bool) (d : A) (xs : List A) : Type 0 where
   pub found : first p d xs ≡ d
   pub changed : (f : A → A) → upd p f xs ≡ xs
   pub flagged : marked p xs ≡ none xs
-  pub some : some_of p xs ≡ false
+  pub some : list_any p xs ≡ false
 
 module _ {A : Type 0} (p : A → Bool) (d : A) where
   pub placed_head : (x : A) (xs : List A) → p x ≡ true → Placed p d (x ∷ xs) 0
@@ -66,12 +67,12 @@ module _ {A : Type 0} (p : A → Bool) (d : A) where
         some = rw e r.some;
       }
 
-  pub placed_from : (n : ℕ) (xs : List A) (i : ℕ) → place_from p n xs ≡ At i → (n ≤ i) × Placed p d xs (i - n)
+  pub placed_from : (n : ℕ) (xs : List A) (i : ℕ) → position_from p n xs ≡ Some i → (n ≤ i) × Placed p d xs (i - n)
   placed_from n [] i e = let z : ◌≡◌ {A = ℕ} 0 1 = cc in absurd (omega arith)
   placed_from n (x ∷ xs) i e =
       by_test (p x)
       (λ t.
-      let here : At n ≡ At i = rw t at e in
+      let here : Some n ≡ Some i = rw t at e in
       let same : n ≡ i = cc in
       let z : i - n ≡ 0 = omega arith in
       (omega arith, rw z (placed_head x xs t)))
@@ -80,17 +81,17 @@ module _ {A : Type 0} (p : A → Bool) (d : A) where
       let z : i - n ≡ suc (i - (n + 1)) = omega (arith, ih.0) in
       (omega (arith, ih.0), rw z (placed_tail x xs (i - (n + 1)) t ih.1)))
 
-  pub placed : (xs : List A) (i : ℕ) → place p xs ≡ At i → Placed p d xs i
+  pub placed : (xs : List A) (i : ℕ) → place p xs ≡ Some i → Placed p d xs i
   placed xs i e =
       let z : i - 0 ≡ i = omega arith in
       rw z at (placed_from 0 xs i e).1
 
-  pub unplaced_from : (n : ℕ) (xs : List A) → place_from p n xs ≡ Nothing → Unplaced p d xs
+  pub unplaced_from : (n : ℕ) (xs : List A) → position_from p n xs ≡ None → Unplaced p d xs
   unplaced_from n [] e = record { found = refl; changed = λ f. refl; flagged = refl; some = refl }
   unplaced_from n (x ∷ xs) e =
       by_test (p x)
       (λ t.
-      let here : At n ≡ Nothing = rw t at e in
+      let here : Some n ≡ None = rw t at e in
       let z : ◌≡◌ {A = ℕ} 0 1 = cc in
       absurd (omega arith))
       (λ t.
@@ -102,7 +103,7 @@ module _ {A : Type 0} (p : A → Bool) (d : A) where
         some = rw t ih.some;
       })
 
-  pub unplaced : (xs : List A) → place p xs ≡ Nothing → Unplaced p d xs
+  pub unplaced : (xs : List A) → place p xs ≡ None → Unplaced p d xs
   unplaced xs e = unplaced_from 0 xs e
 
 module _ {A : Type 0} where
@@ -110,14 +111,14 @@ module _ {A : Type 0} where
   none-replicate [] = refl
   none-replicate (x ∷ xs) = ap (λ (l : List Bool). false ∷ l) (none-replicate xs)
 
-  pub marked-placed : (p : A → Bool) (d : A) (xs : List A) (i : ℕ) → place p xs ≡ At i → marked p xs ≡ set (replicate (length xs) false) i true
+  pub marked-placed : (p : A → Bool) (d : A) (xs : List A) (i : ℕ) → place p xs ≡ Some i → marked p xs ≡ set (replicate (length xs) false) i true
   marked-placed p d xs i e = (placed p d xs i e).flagged ∙ rw (none-replicate xs)
 
-  pub nothing_from : (p : A → Bool) (n : ℕ) (xs : List A) → some_of p xs ≡ false → place_from p n xs ≡ Nothing
+  pub nothing_from : (p : A → Bool) (n : ℕ) (xs : List A) → list_any p xs ≡ false → position_from p n xs ≡ None
   nothing_from p n [] e = refl
   nothing_from p n (x ∷ xs) e = by_test (p x) (λ t. clash (rw t) e) (λ t. rw t (nothing_from p (n + 1) xs (rw t at e)))
 
-  pub some_nothing : (p : A → Bool) (xs : List A) → some_of p xs ≡ false → place p xs ≡ Nothing
+  pub some_nothing : (p : A → Bool) (xs : List A) → list_any p xs ≡ false → place p xs ≡ None
   some_nothing p xs e = nothing_from p 0 xs e
 
 -- what passes a does not pass b, neither before nor after f
@@ -132,7 +133,7 @@ module _ {A : Type 0} (a b : A → Bool) (f : A → A) (off : Off b a f) where
       (λ t. rw (t, (off x t).0, (off x t).1))
       (λ t. by_test (b x) (λ u. rw (t, u)) (λ u. rw (t, u) (first-after d xs)))
 
-  pub place_after_from : (n : ℕ) (xs : List A) → place_from b n (upd a f xs) ≡ place_from b n xs
+  pub place_after_from : (n : ℕ) (xs : List A) → position_from b n (upd a f xs) ≡ position_from b n xs
   place_after_from n [] = refl
   place_after_from n (x ∷ xs) =
       by_test (a x)
@@ -142,7 +143,7 @@ module _ {A : Type 0} (a b : A → Bool) (f : A → A) (off : Off b a f) where
   pub place_after : (xs : List A) → place b (upd a f xs) ≡ place b xs
   place_after xs = place_after_from 0 xs
 
-  pub some_after : (xs : List A) → some_of b (upd a f xs) ≡ some_of b xs
+  pub some_after : (xs : List A) → list_any b (upd a f xs) ≡ list_any b xs
   some_after [] = refl
   some_after (x ∷ xs) =
       by_test (a x)

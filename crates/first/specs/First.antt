@@ -6,17 +6,12 @@
 --   none        as many flags, none of them true
 --   Below       a place that is found lies below n
 -- Over any element type, any test and a list of any length. Assumes nothing.
-use Rattle.std.specs.Prelude.{ℕ, ◌+◌, ◌<◌, Bool, true, false, cond, List, [], ◌∷◌}
-use Rattle.first.specs.declared.Found.{Found}
-use Rattle.first.specs.declared.Found.TheVariants.{Nothing, At}
+use Rattle.std.specs.Prelude.{ℕ, ◌<◌, Bool, true, false, cond, List, [], ◌∷◌, Option, Some, None}
+use Rattle.std.specs.List.{position_from}
 
 module _ {A : Type 0} where
-  abbrev pub place_from : (A → Bool) → ℕ → List A → Found
-  place_from p n [] = Nothing
-  place_from p n (x ∷ xs) = cond (p x) (At n) (place_from p (n + 1) xs)
-
-  abbrev pub place : (A → Bool) → List A → Found
-  place p xs = place_from p 0 xs
+  abbrev pub place : (A → Bool) → List A → Option ℕ
+  place p xs = position_from p 0 xs
 
   abbrev pub first : (A → Bool) → A → List A → A
   first p d [] = d
@@ -34,6 +29,6 @@ module _ {A : Type 0} where
   marked p [] = []
   marked p (x ∷ xs) = cond (p x) (true ∷ none xs) (false ∷ marked p xs)
 
-abbrev pub Below : ℕ → Found → Type 0
-Below n Nothing = Unit {0}
-Below n (At i) = i < n
+abbrev pub Below : ℕ → Option ℕ → Type 0
+Below n None = Unit {0}
+Below n (Some i) = i < n

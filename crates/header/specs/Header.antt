@@ -2,11 +2,9 @@
 --   header_in     what the header says
 --   head_of       the header, where the three header checks let the message pass
 -- Assumes nothing.
-use Rattle.std.specs.Prelude.{ℕ, ◌+◌, ◌*◌, ◌-◌, ◌%◌, cond, List, eqb, leb, ltb, length, get_or}
+use Rattle.std.specs.Prelude.{ℕ, ◌+◌, ◌*◌, ◌-◌, ◌%◌, cond, List, eqb, leb, ltb, length, get_or, Option, Some, None}
 use Rattle.octets.specs.Octets.{number}
 use Rattle.header.specs.declared.Header.{Header}
-use Rattle.header.specs.declared.Head.{Head}
-use Rattle.header.specs.declared.Head.TheVariants.{Ignored, Is}
 
 -- "Header: 09; 03; three octets of flag (top bit) and 23-bit reference; type; 80 (received: not examined); two octets of
 -- length, counting what follows octet 9, high octet first."
@@ -19,8 +17,8 @@ header_in m = record {
 }
 
 -- "1. First octet not 09, or under 9 octets: ignored. 2. Octet 2 not 03: ignored."
-abbrev pub head_of : List ℕ → Head
+abbrev pub head_of : List ℕ → Option Header
 head_of m =
     cond (ltb (length m) 9)
-    Ignored
-    (cond (eqb (get_or m 0 0) 0x09) (cond (eqb (get_or m 1 0) 0x03) (Is (header_in m)) Ignored) Ignored)
+    None
+    (cond (eqb (get_or m 0 0) 0x09) (cond (eqb (get_or m 1 0) 0x03) (Some (header_in m)) None) None)

@@ -3,6 +3,7 @@
 --   doubt_free, doubt_stays, doubt_begins
 --                            if the pair is in doubt afterwards: where it was free, in doubt, held by a call that goes
 -- Assumes nothing.
+use Rattle.std.specs.Prelude.{Some}
 use Prim.Native.Nat.{ℕ}
 use mathlib.Core.Path.{◌≡◌, refl, sym, ap, ◌∙◌}
 use mathlib.Core.Logic.{◌≢◌}
@@ -13,7 +14,7 @@ use lib.Dec.{eqb}
 use lib.ListN.{replicate}
 use lib.Seq.{get_or-set_other}
 use borrow.Author.Tests.{eqb-true, eqb-false, eq-eqb}
-use Rattle.channels.specs.Channels.{permitted}
+use Rattle.channels.specs.Channels.{pair, permitted}
 use Rattle.channels.specs.declared.Named.{Named}
 use Rattle.channels.specs.declared.Named.TheVariants as named
 use Rattle.channels.proofs.Cases.{by_test, clash}
@@ -28,7 +29,6 @@ use Rattle.calls.specs.declared.Slot.{Slot}
 use Rattle.calls.specs.Calls.{no_slot, is_named}
 use Rattle.slots.specs.Slots.{slot_count}
 use Rattle.header.specs.declared.Header.{Header}
-use Rattle.header.specs.declared.Head.TheVariants.{Is}
 use Rattle.elements.specs.declared.ConnectionRead.{ConnectionRead}
 use Rattle.elements.specs.declared.RestartRead.{RestartRead}
 use Rattle.elements.specs.Values.{connection_in, restart_in}
@@ -79,7 +79,7 @@ module _ (t : Table) (e : Event) (p v : ℕ) where
     goes : (i : ℕ) → second_expiry t e i ≡ false → ends t e (left (Put i no_slot 3)) p v ≡ false → Doubting (Put i no_slot 3)
     -- it goes by one
     expires : (i : ℕ) (c : Call) (q : State) → HasCall t i c q → second_expiry t e i ≡ true → is_full t.doubts ≡ false
-        → ends t e (left (Doubt i c.vpci c.vci)) p v ≡ false → Doubting (Doubt i c.vpci c.vci)
+        → ends t e (left (Doubt i c.pair.vpci c.pair.vci)) p v ≡ false → Doubting (Doubt i c.pair.vpci c.pair.vci)
     -- a user's RESTART, or an acknowledge of ours, which names the pair or does not
     restart : (which : Named) (why : Ending) → ((i : ℕ) → second_expiry t e i ≡ false) → marks t e (left (Restart which why)) p v ≡ false
         → ends t e (left (Restart which why)) p v ≡ by_us.names which p v → Doubting (Restart which why)
@@ -114,7 +114,7 @@ ending-unmarked t (restart_command label reading room target) p v u y = refl
 ending-unmarked t (put_marks_back label reading room) p v u y = refl
 
 -- what a RESTART names
-restart_is : (m : List ℕ) (h : Header) (e : Event) (p v : ℕ) → view.IsMessage m h e → restart_head (Is h) ≡ true
+restart_is : (m : List ℕ) (h : Header) (e : Event) (p v : ℕ) → view.IsMessage m h e → restart_head (Some h) ≡ true
     → restarts e p v ≡ names (restart_in m 9) (connection_in m 9) p v
 restart_is m h e p v (view.heard label reading room head) right =
     ap (λ (b : Bool). b && names (restart_in m 9) (connection_in m 9) p v) (ap restart_head head ∙ right)
@@ -125,7 +125,7 @@ names_same t r c which a p v (view.all k g y) = rw (g, y)
 names_same t r c which a p v (view.one k q w g n f known fair) = rw (g, n, f)
 
 -- what our RESTART names
-acknowledge_is : (t : Table) (m : List ℕ) (h : Header) (e : Event) (which : Named) (second : Bool) (d p v : ℕ) → view.IsMessage m h e → acknowledge_head (Is h) ≡ true
+acknowledge_is : (t : Table) (m : List ℕ) (h : Header) (e : Event) (which : Named) (second : Bool) (d p v : ℕ) → view.IsMessage m h e → acknowledge_head (Some h) ≡ true
     → t.global.state ≡ RestartRequest which second d → is_same which (restart_in m 9) (connection_in m 9) ≡ true → acknowledges t e p v ≡ by_us.names which p v
 acknowledge_is t m h e which second d p v (view.heard label reading room head) right g same =
     ap (λ (b : Bool). b && answers t.global.state (restart_in m 9) (connection_in m 9) p v) (ap acknowledge_head head ∙ right) ∙ rw (g, same)
@@ -169,7 +169,7 @@ module _ (t : Table) (e : Event) (p v : ℕ) (other : restarts e p v ≡ false) 
       (λ y. rw (last_expires (no_room t) q (reading_of e) y)
       (by_test (no_room t)
       (λ full. rw full (put i _ 0 (λ z. omega arith)))
-      (λ room. rw room (expires i c q live (expiry_at t e i c q is live ∙ y) room (unended (Doubt i c.vpci c.vci) refl)))))
+      (λ room. rw room (expires i c q live (expiry_at t e i c q is live ∙ y) room (unended (Doubt i c.pair.vpci c.pair.vci) refl)))))
       (λ n. verdict_doubting (no_room t) i c q _ (expiry_at t e i c q is live ∙ n) (λ room. n) (verdict.expired (reading_of e) (no_room t) q))
 
   does_doubting : (x : Effect) → view.Does t e x → Doubting t e p v x.change
@@ -224,9 +224,9 @@ doubting t e s accepted p v ok =
 -- a call that is named has a pair that is
 slot_names : (which : Named) (p v : ℕ) (c : Call) (q : State) → is_named which (record { hold = Live c q }) ≡ true → OnPair p v c → by_us.names which p v ≡ true
 slot_names named.All p v c q y on = refl
-slot_names (named.Pair a b) p v c q y on =
-    let same = on_pair_lem a b c q y in
-    rw (eq-eqb a p (sym same.vpci ∙ on.vpci), eq-eqb b v (sym same.vci ∙ on.vci))
+slot_names (named.One ab) p v c q y on =
+    let same = on_pair_lem ab.vpci ab.vci c q y in
+    rw (eq-eqb ab.vpci p (sym same.vpci ∙ on.vpci), eq-eqb ab.vci v (sym same.vci ∙ on.vci))
 
 -- one flag alone is set
 flag_here : (j i : ℕ) → flag_of (flags_at j) i ≡ true → i ≡ j
@@ -241,15 +241,15 @@ module _ (t : Table) (e : Event) (s : Sound t) (p v : ℕ) where
 
   -- one more pair is in doubt
   more : (i : ℕ) (c : Call) (q : State) → HasCall t i c q → is_full t.doubts ≡ false
-      → after (Doubt i c.vpci c.vci) ≡ ((eqb c.vpci p && eqb c.vci v) || in_pairs t.doubts p v)
-  more i c q live room = let k = (s.calls_sound i c q live).vci_high in with_in t.doubts c.vpci c.vci p v room (omega arith)
+      → after (Doubt i c.pair.vpci c.pair.vci) ≡ ((eqb c.pair.vpci p && eqb c.pair.vci v) || in_pairs t.doubts p v)
+  more i c q live room = let k = (s.calls_sound i c q live).vci_high in with_in t.doubts c.pair.vpci c.pair.vci p v room (omega arith)
 
   pub doubt_free : (x : Change) → Doubting t e p v x → (Holds t p v → ⊥) → in_pairs t.doubts p v ≡ false → after x ≡ false
   doubt_free x (stays _ same told none) unheld d = rw same d
   doubt_free x (goes i first none) unheld d = d
   doubt_free x (expires i c q live second room none) unheld d =
-      let apart : (eqb c.vpci p && eqb c.vci v) ≡ false =
-      by_test (eqb c.vpci p && eqb c.vci v)
+      let apart : (eqb c.pair.vpci p && eqb c.pair.vci v) ≡ false =
+      by_test (eqb c.pair.vpci p && eqb c.pair.vci v)
       (λ y. absurd (unheld (record { slot = i; call = c; state = q; live = live; pair = on_pair_lem p v c q y })))
       (λ n. n) in
       more i c q live room ∙ rw (apart, d)
@@ -259,7 +259,7 @@ module _ (t : Table) (e : Event) (s : Sound t) (p v : ℕ) where
   pub doubt_stays : (x : Change) → Doubting t e p v x → in_pairs t.doubts p v ≡ true → after x ≡ not (ends t e (left t e p v x) p v)
   doubt_stays x (stays _ same told none) d = rw (none, same) d
   doubt_stays x (goes i first none) d = rw none d
-  doubt_stays x (expires i c q live second room none) d = more i c q live room ∙ rw (d, none) (or-true (eqb c.vpci p && eqb c.vci v))
+  doubt_stays x (expires i c q live second room none) d = more i c q live room ∙ rw (d, none) (or-true (eqb c.pair.vpci p && eqb c.pair.vci v))
   doubt_stays x (restart which why first none named) d = unless_in t.doubts which p v ∙ rw (d, named) (and-true (not (by_us.names which p v)))
   doubt_stays x (withdraws which all named) d = unless_in t.doubts which p v ∙ rw (d, named) (and-true (not (by_us.names which p v)))
 

@@ -2,6 +2,7 @@
 --   last_expires    what is decided of the call
 --   expires         of every sound table
 -- Assumes nothing.
+use Rattle.std.specs.Prelude.{Some}
 use Prim.Native.Nat.{ℕ, ◌<◌}
 use mathlib.Core.Path.{◌≡◌, refl, ap, ◌∙◌}
 use mathlib.Core.Bool.{Bool, true, false, not, cond}
@@ -16,7 +17,6 @@ use Rattle.pairs.proofs.Laws.{with_in}
 use Rattle.calls.specs.declared.State.{State}
 use Rattle.calls.specs.declared.State.TheVariants.{N3, N6, N9, N10, N12}
 use Rattle.calls.specs.declared.Call.{Call}
-use Rattle.calls.specs.declared.Due.TheVariants.{At}
 use Rattle.calls.specs.Calls.{no_slot, live_slot}
 use Rattle.slots.specs.Timers.{soonest, next_due}
 use Rattle.service.specs.declared.GlobalState.{GlobalState}
@@ -64,7 +64,7 @@ module _ (t : Table) (s : Sound t) (label reading room i : ℕ) (c : Call) (q : 
       by_state : (g : GlobalState) → t.global.state ≡ g → tick_effect t reading ≡ fired t reading (next_due reading t.slots.all)
       by_state Null g = rw g
       by_state (RestartRequest which second d) g =
-          by_test (request_first reading (soonest reading t.slots.all) (At d))
+          by_test (request_first reading (soonest reading t.slots.all) (Some d))
           (λ y. absurd (f.no_T316 which second d g (fires_next t reading d y)))
           (λ n. rw (g, n))
 
@@ -79,13 +79,13 @@ module _ (t : Table) (s : Sound t) (label reading room i : ℕ) (c : Call) (q : 
 
   pub begins : is_full t.doubts ≡ false
       → let o = happens t ticks in
-      (slot_at o.answer.table i ≡ no_slot) × (InDoubt o.answer.table c.vpci c.vci) × (o.answer.notice ≡ 3) × (o.reply ≡ [])
+      (slot_at o.answer.table i ≡ no_slot) × (InDoubt o.answer.table c.pair.vpci c.pair.vci) × (o.answer.notice ≡ 3) × (o.reply ≡ [])
   begins room =
       let k = (s.calls_sound i c q f.live).vci_high in
-      let more = with_in t.doubts c.vpci c.vci c.vpci c.vci room (omega arith) in
+      let more = with_in t.doubts c.pair.vpci c.pair.vci c.pair.vpci c.pair.vci room (omega arith) in
       rw (as_fired false room) (
         get_or-set_same t.slots.all i no_slot no_slot below,
-        more ∙ rw (eq-eqb c.vpci c.vpci refl, eq-eqb c.vci c.vci refl),
+        more ∙ rw (eq-eqb c.pair.vpci c.pair.vpci refl, eq-eqb c.pair.vci c.pair.vci refl),
         refl,
         refl,
       )

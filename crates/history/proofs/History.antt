@@ -3,6 +3,7 @@
 --   only_permitted    what holds a pair, or is in doubt, is permitted
 --   history
 -- Assumes nothing.
+use Rattle.std.specs.Prelude.{Option, Some, None}
 use Prim.Native.Nat.{ℕ}
 use mathlib.Core.Path.{◌≡◌, refl, ap, ◌∙◌}
 use mathlib.Core.Logic.{⊎_elim}
@@ -14,8 +15,6 @@ use Rattle.channels.proofs.Cases.{by_test, clash}
 use Rattle.pairs.specs.Pairs.{in_pairs}
 use Rattle.service.specs.Service.{is_out}
 use Rattle.calls.specs.Calls.{holds_pair}
-use Rattle.first.specs.declared.Found.{Found}
-use Rattle.first.specs.declared.Found.TheVariants.{Nothing, At}
 use Rattle.first.specs.First.{place}
 use Rattle.table.specs.declared.Table.{Table}
 use Rattle.control.specs.Happens.{Event, happens, after}
@@ -46,9 +45,9 @@ only_permitted t s p v not-ok =
     let sure : in_pairs t.doubts p v ≡ false = by_test (in_pairs t.doubts p v) (λ y. clash (s.doubt_permitted p v y) not-ok) (λ n. n) in
     way_none t p v none ∙ rw (sure, not-ok, and-false (is_out t.out p v))
 
-as_if_none : (t : Table) (p v : ℕ) (f : Found) → standing t p v f ≡ standing (without_restart t) p v f
-as_if_none t p v Nothing = refl
-as_if_none t p v (At i) = refl
+as_if_none : (t : Table) (p v : ℕ) (f : Option ℕ) → standing t p v f ≡ standing (without_restart t) p v f
+as_if_none t p v None = refl
+as_if_none t p v (Some i) = refl
 
 pub history : History
 history = record {

@@ -6,6 +6,7 @@
 --   named_free            what was named is free, but for what is out of service
 --   restarting            of every sound table
 -- Assumes nothing.
+use Rattle.std.specs.Prelude.{Option, Some, None}
 use Prim.Native.Nat.{ℕ}
 use mathlib.Core.Path.{◌≡◌, refl, ap, ◌∙◌}
 use mathlib.Core.Bool.{true, false, not, ◌&&◌, or-true}
@@ -13,7 +14,7 @@ use mathlib.Core.List.{List, [], ◌∷◌}
 use native.Mathlib.Omega.{arith}
 use lib.Dec.{eqb, leb}
 use borrow.Author.Tests.{eqb-true, eq-eqb, leb-true, le-leb, le-ltb, not-true}
-use Rattle.channels.specs.Channels.{permitted, permanent, in_range, in_ranges, spans_vpci, spanned_vpci, known_vpci}
+use Rattle.channels.specs.Channels.{pair, permitted, permanent, in_range, in_ranges, spans_vpci, spanned_vpci, known_vpci}
 use Rattle.channels.specs.declared.Named.{Named}
 use Rattle.channels.specs.declared.Named.TheVariants as named
 use Rattle.channels.specs.declared.Range.{Range}
@@ -22,8 +23,6 @@ use Rattle.channels.proofs.Cases.{by_test, clash, both}
 use Rattle.pairs.specs.Pairs as by_us
 use Rattle.pairs.proofs.Laws.{unless_in}
 use Rattle.header.specs.declared.Header.{Header}
-use Rattle.header.specs.declared.Head.{Head}
-use Rattle.header.specs.declared.Head.TheVariants.{Ignored, Is}
 use Rattle.header.specs.Header.{head_of}
 use Rattle.elements.specs.declared.ConnectionRead.{ConnectionRead}
 use Rattle.elements.specs.declared.ConnectionRead.TheVariants as connection_read
@@ -78,17 +77,17 @@ permitted-known pool p v ok =
 -- What is decided.
 
 -- its header lets it go on to its elements
-goes_on : (t : Table) (reading : ℕ) (m : List ℕ) (x : Head) → restart_head x ≡ true
+goes_on : (t : Table) (reading : ℕ) (m : List ℕ) (x : Option Header) → restart_head x ≡ true
     → heard_by t reading m x ≡ restart_effect (global_number t.global.state) t.pool (restart_in m 9) (connection_in m 9)
-goes_on t reading m Ignored e = clash e refl
-goes_on t reading m (Is h) e =
+goes_on t reading m None e = clash e refl
+goes_on t reading m (Some h) e =
     let a = both (eqb h.kind 0x46 && not h.flag) (eqb h.reference 0 && h.whole) e in
     let b = both (eqb h.reference 0) h.whole a.1 in
     rw (b.0, a.0, b.1)
 
 -- no STATUS answers a permitted pair
 goes_through : (t : Table) → Sound t → (p v : ℕ) → permitted t.pool p v ≡ true
-    → pair_restart (global_number t.global.state) t.pool (connection_read.Pair p v) ≡ restart_by (named.Pair p v) (reply.RestartAcknowledge p v)
+    → pair_restart (global_number t.global.state) t.pool (connection_read.Pair p v) ≡ restart_by (named.One (pair p v)) (reply.RestartAcknowledge p v)
 goes_through t s p v ok =
     let known = permitted-known t.pool p v ok in
     let numbers = s.numbers p v ok in
@@ -109,7 +108,7 @@ module _ (t : Table) (s : Sound t) (p v : ℕ) (ok : permitted t.pool p v ≡ tr
   pair_acts (connection_read.Pair q w) e =
       let b = both (eqb q p) (eqb w v) e in
       record {
-        which = named.Pair q w;
+        which = named.One (pair q w);
         why = User;
         change = rw (eqb-true q p b.0, eqb-true w v b.1) (ap (λ (x : Effect). x.change) (goes_through t s p v ok));
         unmarked = λ o. refl;
@@ -136,7 +135,7 @@ module _ (t : Table) (s : Sound t) (p v : ℕ) (ok : permitted t.pool p v ≡ tr
   acts (put_marks_back label reading room) e = clash e refl
 
 -- an acknowledge of our RESTART
-answered : (t : Table) (m : List ℕ) (h : Header) (p v : ℕ) (g : GlobalState) → t.global.state ≡ g → acknowledge_head (Is h) ≡ true
+answered : (t : Table) (m : List ℕ) (h : Header) (p v : ℕ) (g : GlobalState) → t.global.state ≡ g → acknowledge_head (Some h) ≡ true
     → answers g (restart_in m 9) (connection_in m 9) p v ≡ true → ActsOn p v (global_effect t m h)
 answered t m h p v Null g right e = clash e refl
 answered t m h p v (RestartRequest which second d) g right e =
@@ -152,10 +151,10 @@ answered t m h p v (RestartRequest which second d) g right e =
       pair_named = same.1;
     }
 
-head_answered : (t : Table) (reading : ℕ) (m : List ℕ) (p v : ℕ) (x : Head) → acknowledge_head x ≡ true
+head_answered : (t : Table) (reading : ℕ) (m : List ℕ) (p v : ℕ) (x : Option Header) → acknowledge_head x ≡ true
     → answers t.global.state (restart_in m 9) (connection_in m 9) p v ≡ true → ActsOn p v (heard_by t reading m x)
-head_answered t reading m p v Ignored right e = clash right refl
-head_answered t reading m p v (Is h) right e =
+head_answered t reading m p v None right e = clash right refl
+head_answered t reading m p v (Some h) right e =
     let a = both (eqb h.kind 0x4E && h.flag) (eqb h.reference 0 && h.whole) right in
     rw (both (eqb h.reference 0) h.whole a.1).0 (answered t m h p v t.global.state refl right e)
 
@@ -187,6 +186,6 @@ restarting t s = record {
       rw (as_restart t label reading room m r (restart_by named.All reply.RestartAcknowledgeAll) (rw c))
       (λ p v. named_free t reading named.All p v refl, refl);
   ends_named = λ label reading room m r c p v d ok.
-      rw (as_restart t label reading room m r (restart_by (named.Pair p v) (reply.RestartAcknowledge p v)) (rw (c, d) (goes_through t s p v ok)))
-      (named_free t reading (named.Pair p v) p v (rw (eq-eqb p p refl, eq-eqb v v refl)), refl);
+      rw (as_restart t label reading room m r (restart_by (named.One (pair p v)) (reply.RestartAcknowledge p v)) (rw (c, d) (goes_through t s p v ok)))
+      (named_free t reading (named.One (pair p v)) p v (rw (eq-eqb p p refl, eq-eqb v v refl)), refl);
 }

@@ -4,18 +4,17 @@
 --   Stands, stands          each way, and what it says of the table
 --   one_call                how a pair stands says which call holds it
 -- Assumes nothing.
+use Rattle.std.specs.Prelude.{Option, Some, None}
 use Prim.Native.Nat.{ℕ}
 use mathlib.Core.Path.{◌≡◌, refl, sym, ap, ◌∙◌}
 use mathlib.Core.Bool.{Bool, true, false, cond}
-use Rattle.channels.specs.Some.{some_of}
+use Rattle.std.specs.List.{list_any}
 use Rattle.channels.proofs.Cases.{by_test, clash}
 use Rattle.pairs.specs.Pairs.{in_pairs}
 use Rattle.calls.specs.declared.State.{State}
 use Rattle.calls.specs.declared.Call.{Call}
 use Rattle.calls.specs.declared.Hold.TheVariants.{Live}
 use Rattle.calls.specs.Calls.{no_slot, holds_pair}
-use Rattle.first.specs.declared.Found.{Found}
-use Rattle.first.specs.declared.Found.TheVariants.{Nothing, At}
 use Rattle.first.specs.First.{place}
 use Rattle.first.proofs.First.{placed, unplaced, some_nothing}
 use Rattle.table.specs.declared.Table.{Table}
@@ -36,23 +35,23 @@ same_live c d q r e = cc
 
 module _ (t : Table) (p v : ℕ) where
   -- the slot that is found
-  found_holds : (i : ℕ) → place (holds_pair p v) t.slots.all ≡ At i → (c : Call) × ((q : State) × (HasCall t i c q × OnPair p v c))
+  found_holds : (i : ℕ) → place (holds_pair p v) t.slots.all ≡ Some i → (c : Call) × ((q : State) × (HasCall t i c q × OnPair p v c))
   found_holds i e = hold_on p v (slot_at t i).hold (placed (holds_pair p v) no_slot t.slots.all i e).passes
 
   pub way_none : (Holds t p v → ⊥) → way_in t p v ≡ cond (in_pairs t.doubts p v) doubtful (unmarked t p v)
   way_none none =
-      let no : some_of (holds_pair p v) t.slots.all ≡ false =
-      by_test (some_of (holds_pair p v) t.slots.all) (λ y. absurd (none (some_held t p v y))) (λ n. n) in
+      let no : list_any (holds_pair p v) t.slots.all ≡ false =
+      by_test (list_any (holds_pair p v) t.slots.all) (λ y. absurd (none (some_held t p v y))) (λ n. n) in
       ap (standing t p v) (some_nothing (holds_pair p v) t.slots.all no)
 
   pub way_held : Sound t → (i : ℕ) (c : Call) (q : State) → HasCall t i c q → OnPair p v c → way_in t p v ≡ held i c.network c.reference
   way_held s i c q live on = by_found (place (holds_pair p v) t.slots.all) refl
     where
-      by_found : (f : Found) → place (holds_pair p v) t.slots.all ≡ f → standing t p v f ≡ held i c.network c.reference
-      by_found Nothing e =
+      by_found : (f : Option ℕ) → place (holds_pair p v) t.slots.all ≡ f → standing t p v f ≡ held i c.network c.reference
+      by_found None e =
           clash (held_some t p v (record { slot = i; call = c; state = q; live = live; pair = on }))
           (unplaced (holds_pair p v) no_slot t.slots.all e).some
-      by_found (At j) e =
+      by_found (Some j) e =
           let h = found_holds j e in
           let same = s.pair_once i j c h.0 q h.1.0 live h.1.1.0 (on.vpci ∙ sym h.1.1.1.vpci) (on.vci ∙ sym h.1.1.1.vci) in
           rw (← same, live) (held_by_lem p v i c q on)
@@ -67,13 +66,13 @@ module _ (t : Table) (p v : ℕ) where
   pub stands : Stands (way_in t p v)
   stands = by_found (place (holds_pair p v) t.slots.all) refl
     where
-      by_found : (f : Found) → place (holds_pair p v) t.slots.all ≡ f → Stands (standing t p v f)
-      by_found Nothing e =
+      by_found : (f : Option ℕ) → place (holds_pair p v) t.slots.all ≡ f → Stands (standing t p v f)
+      by_found None e =
           let none : Holds t p v → ⊥ = λ h. clash (held_some t p v h) (unplaced (holds_pair p v) no_slot t.slots.all e).some in
           by_test (in_pairs t.doubts p v)
           (λ y. rw y (in_doubt none y))
           (λ n. by_test (out_in t p v) (λ o. rw (n, o) (marked none n o)) (λ o. rw (n, o) (by_none none n o)))
-      by_found (At i) e =
+      by_found (Some i) e =
           let h = found_holds i e in
           rw (h.1.1.0, held_by_lem p v i h.0 h.1.0 h.1.1.1) (by_call i h.0 h.1.0 h.1.1.0 h.1.1.1)
 

@@ -2,15 +2,15 @@
 --   refused_step, accepted_step      an event that is refused, and one that is accepted
 --   step                             every event
 -- Assumes nothing.
+use Rattle.std.specs.Prelude.{Option, Some, None}
 use Prim.Native.Nat.{ℕ}
 use mathlib.Core.Path.{◌≡◌, refl, sym, ap, ◌∙◌}
 use mathlib.Core.Logic.{◌⊎◌, inl, inr, ◌≢◌}
 use mathlib.Core.Bool.{Bool, true, false, cond, not, ◌&&◌, ◌||◌, or-true, and-true, and-false}
 use lib.Dec.{eqb}
 use borrow.Author.Tests.{eqb-true, eqb-false, eq-eqb}
-use Rattle.channels.specs.Channels.{permitted}
-use Rattle.channels.specs.Some.{some_of}
-use Rattle.channels.specs.declared.Channel.TheVariants.{Pair}
+use Rattle.channels.specs.Channels.{pair, permitted}
+use Rattle.std.specs.List.{list_any}
 use Rattle.channels.proofs.Cases.{by_test, clash, both}
 use Rattle.channels.proofs.Some.{some_at}
 use Rattle.pairs.specs.Pairs.{in_pairs}
@@ -20,8 +20,6 @@ use Rattle.calls.specs.declared.Hold.{Hold}
 use Rattle.calls.specs.declared.Hold.TheVariants.{Empty, Live}
 use Rattle.calls.specs.declared.Slot.{Slot}
 use Rattle.calls.specs.Calls.{no_slot, is_empty, holds_pair}
-use Rattle.first.specs.declared.Found.{Found}
-use Rattle.first.specs.declared.Found.TheVariants.{Nothing, At}
 use Rattle.first.specs.First.{place}
 use Rattle.first.proofs.First.{placed, unplaced}
 use Rattle.slots.specs.Slots.{is_set}
@@ -50,16 +48,16 @@ use Rattle.history.proofs.Marks.{kept_unmarked, marks_no_back, outs}
 use Rattle.history.proofs.Doubts.{Doubting, doubting, doubt_free, doubt_stays, doubt_begins}
 
 -- the one flag that is set is found
-one_found : (f : Flags) (i : ℕ) → flag_of f i ≡ true → ((j : ℕ) → j ≢ i → flag_of f j ≡ false) → place is_set f.on ≡ At i
+one_found : (f : Flags) (i : ℕ) → flag_of f i ≡ true → ((j : ℕ) → j ≢ i → flag_of f j ≡ false) → place is_set f.on ≡ Some i
 one_found f i raised none_else = by_found (place is_set f.on) refl
   where
-    by_found : (x : Found) → place is_set f.on ≡ x → x ≡ At i
-    by_found Nothing e =
+    by_found : (x : Option ℕ) → place is_set f.on ≡ x → x ≡ Some i
+    by_found None e =
         clash (some_at is_set false f.on i (passes_within is_set false f.on i refl raised) raised)
         (unplaced is_set false f.on e).some
-    by_found (At j) e =
+    by_found (Some j) e =
         by_test (eqb j i)
-        (λ y. ap At (eqb-true j i y))
+        (λ y. ap Some (eqb-true j i y))
         (λ n. clash (placed is_set false f.on j e).passes (none_else j (eqb-false j i n)))
 
 -- a slot that holds another call, or none
@@ -69,7 +67,7 @@ not_held t p v i none = by_hold (slot_at t i).hold refl
     by_hold : (h : Hold) → (slot_at t i).hold ≡ h → held_by p v i h ≡ free
     by_hold Empty e = refl
     by_hold (Live c q) e =
-        by_test (eqb c.vpci p && eqb c.vci v)
+        by_test (eqb c.pair.vpci p && eqb c.pair.vci v)
         (λ y. absurd (none (record { slot = i; call = c; state = q; live = e; pair = on_pair_lem p v c q y })))
         (λ n. rw n)
 
@@ -116,7 +114,7 @@ module _ (t : Table) (e : Event) (p v : ℕ) where
       -- a call that holds the pair afterwards held it before, or is new: then the pair was free, and its slot empty
       pub data Origin (h : Holds u p v) : Type 0 where
         before : (q : State) → HasCall t h.slot h.call q → Origin h
-        fresh : free_pair t ≡ Pair p v → place is_empty t.slots.all ≡ At h.slot → Origin h
+        fresh : free_pair t ≡ Some (pair p v) → place is_empty t.slots.all ≡ Some h.slot → Origin h
 
       origin : (h : Holds u p v) → Origin h
       origin h = by_comes ((outcome_change t e accepted).comes h.slot h.call h.state h.live)
@@ -126,7 +124,7 @@ module _ (t : Table) (e : Event) (p v : ℕ) where
           by_comes (new n at) = fresh (rw (h.pair.vpci, h.pair.vci) at n.pair) at
 
       -- no call held the pair, and it was not free: none holds it afterwards
-      none-held : (Holds t p v → ⊥) → free_pair t ≢ Pair p v → Holds u p v → ⊥
+      none-held : (Holds t p v → ⊥) → free_pair t ≢ Some (pair p v) → Holds u p v → ⊥
       none-held none taken h = by_origin (origin h)
         where
           by_origin : Origin h → ⊥
@@ -154,7 +152,7 @@ module _ (t : Table) (e : Event) (p v : ℕ) where
           (λ n. n)
 
       -- a new call is told as asked
-      new_asked : (i : ℕ) (c : Call) (q : State) → HasCall u i c q → place is_empty t.slots.all ≡ At i → asked o ≡ At i
+      new_asked : (i : ℕ) (c : Call) (q : State) → HasCall u i c q → place is_empty t.slots.all ≡ Some i → asked o ≡ Some i
       new_asked i c q live at =
           let empty = empty_at t i (placed is_empty no_slot t.slots.all i at).passes in
           let call : CallAsked t u i = record { call = c; state = q; before = empty; after = live } in
@@ -164,9 +162,9 @@ module _ (t : Table) (e : Event) (p v : ℕ) where
           rw (eq-eqb o.answer.notice 1 one_call)
           (one_found o.answer.flags i (rw here one.raised) (λ j other. one.none_else j (λ z. other (z ∙ sym here))))
 
-      none-assigned : (Holds u p v → ⊥) → (f : Found) → assignment u p v f ≡ free
-      none-assigned none Nothing = refl
-      none-assigned none (At i) = not_held u p v i none
+      none-assigned : (Holds u p v → ⊥) → (f : Option ℕ) → assignment u p v f ≡ free
+      none-assigned none None = refl
+      none-assigned none (Some i) = not_held u p v i none
 
       -- if the pair is out of service afterwards
       abbrev newly : Bool
@@ -208,7 +206,7 @@ module _ (t : Table) (e : Event) (p v : ℕ) where
           way_none u p v (none-held none (out_not_free t p v is))
           ∙ rw (doubt_free t e s p v x doubts none d, out_after_lem true is, or-true newly) (by_test (is_put_back e) (λ y. rw y) (λ n. rw n))
       by_standing w (by_none none d out) =
-          by_test (some_of (holds_pair p v) u.slots.all)
+          by_test (list_any (holds_pair p v) u.slots.all)
           (λ y. let h = some_held u p v y in by_origin h (origin h))
           (λ n.
           let nobody : Holds u p v → ⊥ = λ h. clash (held_some u p v h) n in

@@ -17,9 +17,9 @@
 --   without_restart             a table, as if no RESTART ran
 --   SameCall, History          the statement
 -- Assumes nothing.
-use Rattle.std.specs.Prelude.{ℕ, ◌≡◌, ◌⊎◌, Bool, true, false, not, cond, ◌&&◌, ◌||◌, List, [], ◌∷◌, eqb}
-use Rattle.channels.specs.Channels.{permitted}
-use Rattle.channels.specs.declared.Channel.TheVariants.{Pair}
+use Rattle.header.specs.declared.Header.{Header}
+use Rattle.std.specs.Prelude.{ℕ, ◌≡◌, ◌⊎◌, Bool, true, false, not, cond, ◌&&◌, ◌||◌, List, [], ◌∷◌, eqb, Option, Some, None}
+use Rattle.channels.specs.Channels.{pair, permitted}
 use Rattle.channels.specs.declared.Named.{Named}
 use Rattle.pairs.specs.Pairs as by_us
 use Rattle.pairs.specs.Pairs.{is_full, in_pairs}
@@ -29,13 +29,9 @@ use Rattle.calls.specs.declared.Call.{Call}
 use Rattle.calls.specs.declared.Hold.{Hold}
 use Rattle.calls.specs.declared.Hold.TheVariants.{Empty, Live}
 use Rattle.calls.specs.Calls.{no_slot, live_slot, holds_pair}
-use Rattle.first.specs.declared.Found.{Found}
-use Rattle.first.specs.declared.Found.TheVariants.{Nothing, At}
 use Rattle.first.specs.First.{place}
 use Rattle.slots.specs.Slots.{is_set}
 use Rattle.slots.specs.Timers.{next_due}
-use Rattle.header.specs.declared.Head.{Head}
-use Rattle.header.specs.declared.Head.TheVariants.{Ignored, Is}
 use Rattle.header.specs.Header.{head_of}
 use Rattle.elements.specs.declared.ConnectionRead.{ConnectionRead}
 use Rattle.elements.specs.declared.ConnectionRead.TheVariants as connection_read
@@ -70,7 +66,7 @@ pub data Way : Type 0 where
 -- by what slot i holds: a call that has the pair, or not
 abbrev pub held_by : ℕ → ℕ → ℕ → Hold → Way
 held_by p v i Empty = free
-held_by p v i (Live c q) = cond (eqb c.vpci p && eqb c.vci v) (held i c.network c.reference) free
+held_by p v i (Live c q) = cond (eqb c.pair.vpci p && eqb c.pair.vci v) (held i c.network c.reference) free
 
 abbrev pub held_in : Table → ℕ → ℕ → ℕ → Way
 held_in t p v i = held_by p v i (slot_at t i).hold
@@ -80,21 +76,21 @@ abbrev pub out_in : Table → ℕ → ℕ → Bool
 out_in t p v = is_out t.out p v && permitted t.pool p v
 
 -- by the table: a live call holds the pair; it is in doubt; it is out of service; none of these
-abbrev pub standing : Table → ℕ → ℕ → Found → Way
-standing t p v (At i) = held_in t p v i
-standing t p v Nothing = cond (in_pairs t.doubts p v) doubtful (cond (out_in t p v) out_of_service free)
+abbrev pub standing : Table → ℕ → ℕ → Option ℕ → Way
+standing t p v (Some i) = held_in t p v i
+standing t p v None = cond (in_pairs t.doubts p v) doubtful (cond (out_in t p v) out_of_service free)
 
 abbrev pub way_in : Table → ℕ → ℕ → Way
 way_in t p v = standing t p v (place (holds_pair p v) t.slots.all)
 
 -- "1 call asked": the flagged slot
-abbrev pub asked : Outcome → Found
-asked o = cond (eqb o.answer.notice 1) (place is_set o.answer.flags.on) Nothing
+abbrev pub asked : Outcome → Option ℕ
+asked o = cond (eqb o.answer.notice 1) (place is_set o.answer.flags.on) None
 
 -- "from assignment": the call that was asked has the pair afterwards
-abbrev pub assignment : Table → ℕ → ℕ → Found → Way
-assignment u p v Nothing = free
-assignment u p v (At i) = held_in u p v i
+abbrev pub assignment : Table → ℕ → ℕ → Option ℕ → Way
+assignment u p v None = free
+assignment u p v (Some i) = held_in u p v i
 
 -- "until its call ends": "3 calls gone", and its slot is flagged
 abbrev pub gone : Outcome → ℕ → Bool
@@ -115,9 +111,9 @@ second_expiry t (restart label reading room target) i = false
 second_expiry t (put_marks_back label reading room) i = false
 
 -- "A user's RESTART": "RESTART 46", "RESTART with flag 0" on the global reference, and its length is right (document 01, steps 1 to 3 and 5)
-abbrev pub restart_head : Head → Bool
-restart_head Ignored = false
-restart_head (Is h) = (eqb h.kind 0x46 && not h.flag) && (eqb h.reference 0 && h.whole)
+abbrev pub restart_head : Option Header → Bool
+restart_head None = false
+restart_head (Some h) = (eqb h.kind 0x46 && not h.flag) && (eqb h.reference 0 && h.whole)
 
 abbrev pub is_restart : List ℕ → Bool
 is_restart m = restart_head (head_of m)
@@ -143,9 +139,9 @@ restarts (restart label reading room target) p v = false
 restarts (put_marks_back label reading room) p v = false
 
 -- R-4: "RESTART ACKNOWLEDGE with flag 1 then goes on to step 5": "RESTART ACKNOWLEDGE 4E", on the global reference, and its length is right
-abbrev pub acknowledge_head : Head → Bool
-acknowledge_head Ignored = false
-acknowledge_head (Is h) = (eqb h.kind 0x4E && h.flag) && (eqb h.reference 0 && h.whole)
+abbrev pub acknowledge_head : Option Header → Bool
+acknowledge_head None = false
+acknowledge_head (Some h) = (eqb h.kind 0x4E && h.flag) && (eqb h.reference 0 && h.whole)
 
 abbrev pub is_acknowledge : List ℕ → Bool
 is_acknowledge m = acknowledge_head (head_of m)
@@ -212,7 +208,7 @@ way_after t (e ∷ es) p v w = way_after (happens t e).answer.table es p v (next
 -- "on the second T308 expiry": an accepted tick fires the timer of slot i, whose call's second T308 runs; T316 does not come first
 pub record Fires (t : Table) (label reading room i : ℕ) (c : Call) (q : State) : Type 0 where
   pub accepted : (happens t (tick label reading room)).answer.refusal ≡ 0
-  pub due : next_due reading t.slots.all ≡ At i
+  pub due : next_due reading t.slots.all ≡ Some i
   pub no_T316 : (which : Named) (second : Bool) (d : ℕ) → t.global.state ≡ RestartRequest which second d → ¬ T316Next t reading d
   pub live : HasCall t i c q
   pub last : last_t308 q ≡ true
@@ -229,7 +225,7 @@ pub record Expiry (t : Table) : Type 0 where
   -- "Now the pair is in doubt, not free; the slot is empty, notice 3."
   pub begins_doubt : (label reading room i : ℕ) (c : Call) (q : State) → Fires t label reading room i c q → is_full t.doubts ≡ false
       → let o = happens t (tick label reading room) in
-      (slot_at o.answer.table i ≡ no_slot) × (InDoubt o.answer.table c.vpci c.vci) × (o.answer.notice ≡ 3) × (o.reply ≡ [])
+      (slot_at o.answer.table i ≡ no_slot) × (InDoubt o.answer.table c.pair.vpci c.pair.vci) × (o.answer.notice ≡ 3) × (o.reply ≡ [])
   -- "with 64, a second expiry keeps the call in N12 and starts T308 again, sending nothing"
   pub waits : (label reading room i : ℕ) (c : Call) (q : State) → Fires t label reading room i c q → is_full t.doubts ≡ true
       → let o = happens t (tick label reading room) in
@@ -276,7 +272,7 @@ pub record History : Type 0 where
   pub its_call : (t u : Table) → Reached t → Reached u → (p v : ℕ) → way_in t p v ≡ way_in u p v
       → (i j : ℕ) (c d : Call) (q r : State) → HasCall t i c q → OnPair p v c → HasCall u j d r → OnPair p v d → SameCall i j c d
   -- a pair in doubt, or out of service, is given to no call
-  pub not_given : (t : Table) (p v : ℕ) → InDoubt t p v ⊎ IsOut t p v → free_pair t ≡ Pair p v → ⊥
+  pub not_given : (t : Table) (p v : ℕ) → InDoubt t p v ⊎ IsOut t p v → free_pair t ≡ Some (pair p v) → ⊥
   -- every second expiry, of a reached table
   pub expiry : (t : Table) → Reached t → Expiry t
   -- every RESTART of a user, of a reached table

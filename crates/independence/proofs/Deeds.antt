@@ -4,15 +4,15 @@
 --   Sight, sight               what a message sees of the slots
 --   decide, decision           the deed of a message, as document 01 decides it: from the message and what it sees, and nothing else
 -- Assumes nothing.
+use Rattle.std.specs.Prelude.{Option, Some, None}
 use Prim.Native.Nat.{ℕ}
 use mathlib.Core.Bool.{Bool, true, false, not, cond, ◌&&◌}
 use mathlib.Core.List.{List}
 use lib.Dec.{eqb}
 use Rattle.table.specs.declared.Table.{Table}
-use Rattle.channels.specs.declared.Channel.{Channel}
-use Rattle.channels.specs.declared.Channel.TheVariants.{None, Pair}
+use Rattle.channels.specs.declared.Pair.{Pair}
 use Rattle.channels.specs.declared.Pool.{Pool}
-use Rattle.channels.specs.Channels.{lowest}
+use Rattle.channels.specs.Channels.{pair, lowest}
 use Rattle.pairs.specs.declared.Pairs.{Pairs}
 use Rattle.calls.specs.declared.State.{State}
 use Rattle.calls.specs.declared.State.TheVariants.{N3}
@@ -20,8 +20,6 @@ use Rattle.calls.specs.declared.Hold.{Hold}
 use Rattle.calls.specs.declared.Hold.TheVariants.{Empty, Live}
 use Rattle.calls.specs.declared.Slot.{Slot}
 use Rattle.calls.specs.Calls.{no_slot, live_slot, is_empty, is_call}
-use Rattle.first.specs.declared.Found.{Found}
-use Rattle.first.specs.declared.Found.TheVariants.{Nothing, At}
 use Rattle.first.specs.First.{place, first, upd}
 use Rattle.service.specs.declared.GlobalState.{GlobalState}
 use Rattle.service.specs.declared.OutOfService.{OutOfService}
@@ -85,10 +83,10 @@ perform own d ss = upd (reaches own d) (changed d) ss
 
 -- where the message's call is, and its slot; where the lowest empty slot is; the lowest free pair
 pub record Sight : Type 0 where
-  pub call : Found
+  pub call : Option ℕ
   pub slot : Slot
-  pub empty : Found
-  pub pair : Channel
+  pub empty : Option ℕ
+  pub pair : Option Pair
 
 -- what a message on a call leaves as it is: the pairs in doubt and out of service, our RESTART, and the pool
 pub record Ground : Type 0 where
@@ -100,7 +98,7 @@ pub record Ground : Type 0 where
 abbrev pub ground_of : Table → Ground
 ground_of t = record { doubts = t.doubts; out = t.out; request = t.global.state; pool = t.pool }
 
-abbrev pub free_on : Ground → List Slot → Channel
+abbrev pub free_on : Ground → List Slot → Option Pair
 free_on ground ss = lowest (taken ss ground.doubts ground.out ground.request ground.pool.permanents) ground.pool.ranges
 
 abbrev pub sight : (Slot → Bool) → Ground → List Slot → Sight
@@ -119,19 +117,19 @@ abbrev pub still : Bool → ℕ → Reply → Deed
 still flag r answer = turns (replied flag r answer) fate.Stay
 
 -- SETUP on no call: the causes 45, 47 and those of its elements, or a new call
-abbrev pub on_pair : ℕ → ℕ → Channel → Deed
+abbrev pub on_pair : ℕ → ℕ → Option Pair → Deed
 on_pair r i None = still true r (reply.ReleaseCompleteWith (plain_cause 45))
-on_pair r i (Pair p v) = fills (record { refusal = 0; reply = reply_octets true r (reply.CallProceeding p v); notice = 1; flags = flags_at i }) r p v
+on_pair r i (Some pv) = fills (record { refusal = 0; reply = reply_octets true r (reply.CallProceeding pv.vpci pv.vci); notice = 1; flags = flags_at i }) r pv.vpci pv.vci
 
-abbrev pub admit : ℕ → Found → Channel → Deed
-admit r Nothing c = still true r (reply.ReleaseCompleteWith (plain_cause 47))
-admit r (At i) c = on_pair r i c
+abbrev pub admit : ℕ → Option ℕ → Option Pair → Deed
+admit r None c = still true r (reply.ReleaseCompleteWith (plain_cause 47))
+admit r (Some i) c = on_pair r i c
 
-abbrev pub set_up : ℕ → Found → Channel → Admission → Deed
+abbrev pub set_up : ℕ → Option ℕ → Option Pair → Admission → Deed
 set_up r e c (Refused cause) = still true r (reply.ReleaseCompleteWith cause)
 set_up r e c Admitted = admit r e c
 
-abbrev pub on_no_call : List ℕ → Header → Found → Channel → Deed
+abbrev pub on_no_call : List ℕ → Header → Option ℕ → Option Pair → Deed
 on_no_call m h e c =
     cond (eqb h.kind 0x05)
     (cond (not h.flag && h.whole) (set_up h.reference e c (admission m 9)) (still false 0 reply.None))
@@ -148,9 +146,9 @@ abbrev pub on_hold : List ℕ → Header → ℕ → ℕ → Hold → Deed
 on_hold m h reading i Empty = still false 0 reply.None
 on_hold m h reading i (Live c q) = turned h i (judge m h q reading)
 
-abbrev pub decide_at : List ℕ → Header → ℕ → Sight → Found → Deed
-decide_at m h reading see Nothing = on_no_call m h see.empty see.pair
-decide_at m h reading see (At i) = on_hold m h reading i see.slot.hold
+abbrev pub decide_at : List ℕ → Header → ℕ → Sight → Option ℕ → Deed
+decide_at m h reading see None = on_no_call m h see.empty see.pair
+decide_at m h reading see (Some i) = on_hold m h reading i see.slot.hold
 
 abbrev pub decide : List ℕ → Header → ℕ → Sight → Deed
 decide m h reading see = decide_at m h reading see see.call

@@ -3,20 +3,19 @@
 --   easy_calm                  so it is of every decision on one of them
 --   easy_not_setup             none of them is SETUP
 -- Assumes nothing.
+use Rattle.std.specs.Prelude.{Option, Some, None}
 use Prim.Native.Nat.{ℕ}
 use mathlib.Core.Path.{◌≡◌, refl}
 use mathlib.Core.Bool.{true, false}
 use mathlib.Core.List.{List}
 use lib.Dec.{eqb}
 use borrow.Author.Tests.{eqb-true}
-use Rattle.channels.specs.declared.Channel.{Channel}
+use Rattle.channels.specs.declared.Pair.{Pair}
 use Rattle.channels.proofs.Cases.{by_test, clash}
 use Rattle.calls.specs.declared.State.{State}
 use Rattle.calls.specs.declared.State.TheVariants.{N3, N6, N9, N10, N12}
 use Rattle.calls.specs.declared.Hold.{Hold}
 use Rattle.calls.specs.declared.Hold.TheVariants.{Empty, Live}
-use Rattle.first.specs.declared.Found.{Found}
-use Rattle.first.specs.declared.Found.TheVariants.{Nothing, At}
 use Rattle.header.specs.declared.Header.{Header}
 use Rattle.verdicts.specs.declared.Verdict.{Verdict}
 use Rattle.judging.specs.declared.Class.{Class}
@@ -93,16 +92,16 @@ easy_not_setup n e = by_easy (λ (k : ℕ). eqb k 0x05 ≡ false) n e refl refl 
 pub data CalmDeed : Deed → Type 0 where
   calm : (g : Given) {f : _} → Calm f → CalmDeed (turns g f)
 
-no_call_calm : (m : List ℕ) (h : Header) (f : Found) (c : Channel) → eqb h.kind 0x05 ≡ false → CalmDeed (on_no_call m h f c)
+no_call_calm : (m : List ℕ) (h : Header) (f : Option ℕ) (c : Option Pair) → eqb h.kind 0x05 ≡ false → CalmDeed (on_no_call m h f c)
 no_call_calm m h f c e = rw e (calm _ stay)
 
 hold_calm : (m : List ℕ) (h : Header) (reading i : ℕ) (k : Hold) → easy h.kind ≡ true → CalmDeed (on_hold m h reading i k)
 hold_calm m h reading i Empty e = calm _ stay
 hold_calm m h reading i (Live c q) e = calm _ (judged_calm _ m h q reading (easy_class h.kind q e))
 
-found_calm : (m : List ℕ) (h : Header) (reading : ℕ) (see : Sight) (f : Found) → easy h.kind ≡ true → CalmDeed (decide_at m h reading see f)
-found_calm m h reading see Nothing e = no_call_calm m h see.empty see.pair (easy_not_setup h.kind e)
-found_calm m h reading see (At i) e = hold_calm m h reading i see.slot.hold e
+found_calm : (m : List ℕ) (h : Header) (reading : ℕ) (see : Sight) (f : Option ℕ) → easy h.kind ≡ true → CalmDeed (decide_at m h reading see f)
+found_calm m h reading see None e = no_call_calm m h see.empty see.pair (easy_not_setup h.kind e)
+found_calm m h reading see (Some i) e = hold_calm m h reading i see.slot.hold e
 
 pub easy_calm : (m : List ℕ) (h : Header) (reading : ℕ) (see : Sight) → easy h.kind ≡ true → CalmDeed (decide m h reading see)
 easy_calm m h reading see e = found_calm m h reading see see.call e

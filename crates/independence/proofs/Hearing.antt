@@ -6,6 +6,7 @@
 --   takes, hears            a message that is refused leaves the table, and one that is not does its deed
 --   still_accepted          and the reading is accepted in the table afterwards
 -- Assumes nothing.
+use Rattle.std.specs.Prelude.{Option, Some, None}
 use Prim.Native.Nat.{ℕ}
 use mathlib.Core.Path.{◌≡◌, refl, ap, sym, ◌∙◌}
 use mathlib.Core.Bool.{Bool, true, false, not, cond, ◌&&◌}
@@ -14,8 +15,7 @@ use lib.Dec.{eqb, ltb}
 use lib.ListN.{set}
 use native.Mathlib.Nat.{le_refl}
 use borrow.Author.Tests.{ne_eqb, le-ltb}
-use Rattle.channels.specs.declared.Channel.{Channel}
-use Rattle.channels.specs.declared.Channel.TheVariants.{None, Pair}
+use Rattle.channels.specs.declared.Pair.{Pair}
 use Rattle.channels.proofs.Cases.{by_test, clash}
 use Rattle.calls.specs.declared.State.{State}
 use Rattle.calls.specs.declared.Call.{Call}
@@ -23,14 +23,10 @@ use Rattle.calls.specs.declared.Hold.{Hold}
 use Rattle.calls.specs.declared.Hold.TheVariants.{Empty, Live}
 use Rattle.calls.specs.declared.Slot.{Slot}
 use Rattle.calls.specs.Calls.{no_slot, is_empty}
-use Rattle.first.specs.declared.Found.{Found}
-use Rattle.first.specs.declared.Found.TheVariants.{Nothing, At}
 use Rattle.first.specs.First.{place, upd}
 use Rattle.first.proofs.First.{placed}
 use Rattle.slots.specs.Slots.{hold_at}
 use Rattle.header.specs.declared.Header.{Header}
-use Rattle.header.specs.declared.Head.{Head}
-use Rattle.header.specs.declared.Head.TheVariants.{Is}
 use Rattle.header.specs.Header.{head_of}
 use Rattle.replies.specs.declared.Reply.{Reply}
 use Rattle.setup.specs.declared.Admission.{Admission}
@@ -88,13 +84,13 @@ module _ (t : Table) (own : Slot → Bool) where
   still_matches : (flag : Bool) (r : ℕ) (a : Reply) → Matches t own (replying flag r a) (still flag r a)
   still_matches flag r a = record { answer = refl; slots = sym (upd_stays own t.slots.all); doubts = refl; global = refl; out = refl }
 
-  pair_matches : (r i : ℕ) (c : Channel) → place is_empty t.slots.all ≡ At i → Matches t own (effects.on_pair r i c) (on_pair r i c)
+  pair_matches : (r i : ℕ) (c : Option Pair) → place is_empty t.slots.all ≡ Some i → Matches t own (effects.on_pair r i c) (on_pair r i c)
   pair_matches r i None e = still_matches true r _
-  pair_matches r i (Pair p v) e = record { answer = refl; slots = sym ((placed is_empty no_slot t.slots.all i e).changed _); doubts = refl; global = refl; out = refl }
+  pair_matches r i (Some pv) e = record { answer = refl; slots = sym ((placed is_empty no_slot t.slots.all i e).changed _); doubts = refl; global = refl; out = refl }
 
-  admit_matches : (r : ℕ) (f : Found) → place is_empty t.slots.all ≡ f → Matches t own (effects.admitted t r f) (admit r f (effects.free_pair t))
-  admit_matches r Nothing e = still_matches true r _
-  admit_matches r (At i) e = pair_matches r i (effects.free_pair t) e
+  admit_matches : (r : ℕ) (f : Option ℕ) → place is_empty t.slots.all ≡ f → Matches t own (effects.admitted t r f) (admit r f (effects.free_pair t))
+  admit_matches r None e = still_matches true r _
+  admit_matches r (Some i) e = pair_matches r i (effects.free_pair t) e
 
   setup_matches : (r : ℕ) (a : Admission) → Matches t own (effects.setup_effect t r a) (set_up r (place is_empty t.slots.all) (effects.free_pair t) a)
   setup_matches r (Refused c) = still_matches true r _
@@ -106,7 +102,7 @@ module _ (t : Table) (own : Slot → Bool) where
       (matches_cond (not h.flag && h.whole) _ _ _ _ (setup_matches h.reference (admission m 9)) (still_matches false 0 _))
       (still_matches (not h.flag) h.reference _)
 
-  call_matches : (h : Header) (i : ℕ) (c : Call) (q : State) (a : Reply) (f : Fate) → place own t.slots.all ≡ At i → hold_at t.slots.all i ≡ Live c q → Sure f
+  call_matches : (h : Header) (i : ℕ) (c : Call) (q : State) (a : Reply) (f : Fate) → place own t.slots.all ≡ Some i → hold_at t.slots.all i ≡ Live c q → Sure f
       → Matches t own (on_call i c (not h.flag) h.reference (record { fate = f; reply = a })) (turned h i (record { fate = f; reply = a }))
   call_matches h i c q a f e live stay = still_matches (not h.flag) h.reference a
   call_matches h i c q a f e live (to n notice) =
@@ -114,15 +110,15 @@ module _ (t : Table) (own : Slot → Bool) where
       record { answer = refl; slots = sym put; doubts = refl; global = refl; out = refl }
   call_matches h i c q a f e live gone = record { answer = refl; slots = sym ((placed own no_slot t.slots.all i e).changed (fated f)); doubts = refl; global = refl; out = refl }
 
-  hold_matches : (m : List ℕ) (h : Header) (reading i : ℕ) (k : Hold) → place own t.slots.all ≡ At i → hold_at t.slots.all i ≡ k
+  hold_matches : (m : List ℕ) (h : Header) (reading i : ℕ) (k : Hold) → place own t.slots.all ≡ Some i → hold_at t.slots.all i ≡ k
       → Matches t own (effects.on_hold m h reading i k) (on_hold m h reading i k)
   hold_matches m h reading i Empty e live = still_matches false 0 _
   hold_matches m h reading i (Live c q) e live = call_matches h i c q _ _ e live (judged_sure reading q _ (judged reading true m h q))
 
-  found_matches : (m : List ℕ) (h : Header) (reading : ℕ) (f : Found) → place own t.slots.all ≡ f
+  found_matches : (m : List ℕ) (h : Header) (reading : ℕ) (f : Option ℕ) → place own t.slots.all ≡ f
       → Matches t own (effects.addressed t m h reading f) (decide_at m h reading (sight own (ground_of t) t.slots.all) f)
-  found_matches m h reading Nothing e = no_call_matches m h
-  found_matches m h reading (At i) e =
+  found_matches m h reading None e = no_call_matches m h
+  found_matches m h reading (Some i) e =
       let p = placed own no_slot t.slots.all i e in
       rw p.found (hold_matches m h reading i (hold_at t.slots.all i) e refl)
 
@@ -167,7 +163,7 @@ matched t reading own e d x = λ i. (
 )
 
 pub accepted_does : (t : Table) (reading : ℕ) (m : List ℕ) (h : Header) → eqb h.reference 0 ≡ false
-    → read (accepted_as t reading (heard_by t reading m (Is h))) ≡ does reading m h t
+    → read (accepted_as t reading (heard_by t reading m (Some h))) ≡ does reading m h t
 accepted_does t reading m h e =
     ap (λ (b : Bool). read (accepted_as t reading (cond b (effects.global_effect t m h) (effects.addressed t m h reading (place (mine h) t.slots.all))))) e
     ∙ matched t reading (mine h) _ _ (addressed_matches t (mine h) m h reading)
@@ -185,7 +181,7 @@ hears t reading m a q =
     ap (λ (n : ℕ). read (unless_refused t n (accepted_as t reading (heard_by t reading m.octets (head_of m.octets))))) (refusal_alone t reading m a)
     ∙ unless t (refusal_of m) _ (eqb (refusal_of m) 0) refl
     ∙ ap (λ (x : Given × Table). cond (not (eqb (refusal_of m) 0)) (refused_with (refusal_of m), t) x)
-    (ap (λ (x : Head). read (accepted_as t reading (heard_by t reading m.octets x))) q.passes
+    (ap (λ (x : Option Header). read (accepted_as t reading (heard_by t reading m.octets x))) q.passes
     ∙ accepted_does t reading m.octets (headed m) (ne_eqb _ _ q.local))
 
 kept_by : (b : Bool) (reading : ℕ) (t : Table) (g : Given) (x : Given × Table) → AcceptedIn t reading → x.1.last ≡ reading → AcceptedIn (cond b (g, t) x).1 reading

@@ -5,15 +5,15 @@
 --   other_call                 a deed leaves every call of another flagged reference
 --   Calm, calm_empty, calm_free     a deed that ends no call leaves every empty slot and every pair
 -- Assumes nothing.
+use Rattle.std.specs.Prelude.{Option, Some, None}
 use Prim.Native.Nat.{ℕ}
 use mathlib.Core.Path.{◌≡◌, refl, ap, ◌∙◌}
 use mathlib.Core.Bool.{Bool, true, false, not, ◌&&◌, ◌||◌}
 use mathlib.Core.List.{List, [], ◌∷◌}
 use lib.Dec.{eqb}
 use borrow.Author.Tests.{eq-eqb}
-use Rattle.channels.specs.declared.Channel.{Channel}
-use Rattle.channels.specs.declared.Channel.TheVariants.{None, Pair}
-use Rattle.channels.specs.Some.{some_of}
+use Rattle.channels.specs.declared.Pair.{Pair}
+use Rattle.std.specs.List.{list_any}
 use Rattle.channels.specs.Channels.{among}
 use Rattle.channels.proofs.Cases.{by_test, clash}
 use Rattle.channels.proofs.Lowest.{lowest_same}
@@ -25,8 +25,6 @@ use Rattle.calls.specs.declared.Hold.TheVariants.{Empty, Live}
 use Rattle.calls.specs.declared.Slot.{Slot}
 use Rattle.calls.specs.Calls.{is_empty, empty_hold, refers_to, is_call, pair_held, holds_pair}
 use Rattle.calls.proofs.Calls.{call_not_empty, call_named_once}
-use Rattle.first.specs.declared.Found.{Found}
-use Rattle.first.specs.declared.Found.TheVariants.{Nothing, At}
 use Rattle.first.specs.First.{upd}
 use Rattle.first.proofs.First.{Off}
 use Rattle.header.specs.declared.Header.{Header}
@@ -48,19 +46,19 @@ both_true true b e = clash e refl
 both_true false b e = refl
 
 module _ (h : Header) (setup : eqb h.kind 0x05 ≡ true) (user : h.flag ≡ false) where
-  pair_of : (i : ℕ) (c : Channel) → Of h (on_pair h.reference i c)
+  pair_of : (i : ℕ) (c : Option Pair) → Of h (on_pair h.reference i c)
   pair_of i None = of_turn _ _
-  pair_of i (Pair p v) = of_fill _ p v setup user
+  pair_of i (Some pv) = of_fill _ pv.vpci pv.vci setup user
 
-  admit_of : (f : Found) (c : Channel) → Of h (admit h.reference f c)
-  admit_of Nothing c = of_turn _ _
-  admit_of (At i) c = pair_of i c
+  admit_of : (f : Option ℕ) (c : Option Pair) → Of h (admit h.reference f c)
+  admit_of None c = of_turn _ _
+  admit_of (Some i) c = pair_of i c
 
-  setup_of : (f : Found) (c : Channel) (a : Admission) → Of h (set_up h.reference f c a)
+  setup_of : (f : Option ℕ) (c : Option Pair) (a : Admission) → Of h (set_up h.reference f c a)
   setup_of f c (Refused cause) = of_turn _ _
   setup_of f c Admitted = admit_of f c
 
-no_call_of : (m : List ℕ) (h : Header) (f : Found) (c : Channel) → Of h (on_no_call m h f c)
+no_call_of : (m : List ℕ) (h : Header) (f : Option ℕ) (c : Option Pair) → Of h (on_no_call m h f c)
 no_call_of m h f c =
     by_choice (Of h) (eqb h.kind 0x05) _ _
     (λ k. by_choice (Of h) (not h.flag && h.whole) _ _ (λ e. setup_of h k (both_true h.flag h.whole e) f c (admission m 9)) (λ e. of_turn _ _))
@@ -70,9 +68,9 @@ hold_of : (m : List ℕ) (h : Header) (reading i : ℕ) (k : Hold) → Of h (on_
 hold_of m h reading i Empty = of_turn _ _
 hold_of m h reading i (Live c q) = of_turn _ _
 
-found_of : (m : List ℕ) (h : Header) (reading : ℕ) (see : Sight) (f : Found) → Of h (decide_at m h reading see f)
-found_of m h reading see Nothing = no_call_of m h see.empty see.pair
-found_of m h reading see (At i) = hold_of m h reading i see.slot.hold
+found_of : (m : List ℕ) (h : Header) (reading : ℕ) (see : Sight) (f : Option ℕ) → Of h (decide_at m h reading see f)
+found_of m h reading see None = no_call_of m h see.empty see.pair
+found_of m h reading see (Some i) = hold_of m h reading i see.slot.hold
 
 pub decide_of : (m : List ℕ) (h : Header) (reading : ℕ) (see : Sight) → Of h (decide m h reading see)
 decide_of m h reading see = found_of m h reading see see.call
@@ -87,15 +85,15 @@ of_turning h d (of_fill g p v setup user) e = clash setup e
 pub decide_turning : (m : List ℕ) (h : Header) (reading : ℕ) (see : Sight) → eqb h.kind 0x05 ≡ false → Turning (decide m h reading see)
 decide_turning m h reading see e = of_turning h _ (decide_of m h reading see) e
 
-found_alone : (m : List ℕ) (h : Header) (reading : ℕ) (s t : Sight) (f : Found) → eqb h.kind 0x05 ≡ false → s.slot ≡ t.slot
+found_alone : (m : List ℕ) (h : Header) (reading : ℕ) (s t : Sight) (f : Option ℕ) → eqb h.kind 0x05 ≡ false → s.slot ≡ t.slot
     → decide_at m h reading s f ≡ decide_at m h reading t f
-found_alone m h reading s t Nothing e same = rw e
-found_alone m h reading s t (At i) e same = ap (λ (x : Slot). on_hold m h reading i x.hold) same
+found_alone m h reading s t None e same = rw e
+found_alone m h reading s t (Some i) e same = ap (λ (x : Slot). on_hold m h reading i x.hold) same
 
 pub decide_alone : (m : List ℕ) (h : Header) (reading : ℕ) (s t : Sight) → eqb h.kind 0x05 ≡ false → s.call ≡ t.call → s.slot ≡ t.slot
     → decide m h reading s ≡ decide m h reading t
 decide_alone m h reading s t e same-call same-slot =
-    ap (λ (f : Found). decide_at m h reading s f) same-call ∙ found_alone m h reading s t t.call e same-slot
+    ap (λ (f : Option ℕ). decide_at m h reading s f) same-call ∙ found_alone m h reading s t t.call e same-slot
 
 -- "Flag forgotten, so user reference 1 and network reference 1 become one call": flag and value, both
 abbrev pub Other : Header → Header → Type 0
@@ -152,11 +150,11 @@ module _ (p v : ℕ) where
   calm_pair f s stay = refl
   calm_pair f s (to q notice) = state_pair q s.hold
 
-  calm_pairs : (own : Slot → Bool) (f : Fate) (ss : List Slot) → Calm f → some_of (holds_pair p v) (upd own (fated f) ss) ≡ some_of (holds_pair p v) ss
+  calm_pairs : (own : Slot → Bool) (f : Fate) (ss : List Slot) → Calm f → list_any (holds_pair p v) (upd own (fated f) ss) ≡ list_any (holds_pair p v) ss
   calm_pairs own f [] calm = refl
   calm_pairs own f (s ∷ ss) calm =
       by_test (own s)
-      (λ e. rw e (ap (λ (b : Bool). b || some_of (holds_pair p v) ss) (calm_pair f s calm)))
+      (λ e. rw e (ap (λ (b : Bool). b || list_any (holds_pair p v) ss) (calm_pair f s calm)))
       (λ e. rw e (ap (λ (b : Bool). holds_pair p v s || b) (calm_pairs own f ss calm)))
 
 pub calm_free : (own : Slot → Bool) (f : Fate) (ground : Ground) (ss : List Slot) → Calm f → free_on ground (upd own (fated f) ss) ≡ free_on ground ss

@@ -6,11 +6,10 @@
 --   SameResults             each message gets the same answer, and the final table is the same
 --   CallsDoNotLean          the demand
 -- Assumes nothing.
-use Rattle.std.specs.Prelude.{ℕ, ◌≤◌, ◌<◌, ◌≡◌, ◌≢◌, Bool, true, ◌||◌, List, map, eqb, length, get_or}
+use Rattle.std.specs.Prelude.{ℕ, ◌≤◌, ◌<◌, ◌≡◌, ◌≢◌, Bool, true, ◌||◌, List, map, eqb, length, get_or, Some}
 use Rattle.reorder.specs.Reorder.{answers, final, Order, reordered}
 use Rattle.slots.specs.declared.Flags.{Flags}
 use Rattle.header.specs.declared.Header.{Header}
-use Rattle.header.specs.declared.Head.TheVariants.{Is}
 use Rattle.header.specs.Header.{header_in, head_of}
 use Rattle.table.specs.declared.Table.{Table}
 use Rattle.calls.specs.Timers.{largest_reading}
@@ -52,7 +51,7 @@ abbrev pub headed : Heard → Header
 headed m = header_in m.octets
 
 pub record Qualifies (m : Heard) : Type 0 where
-  pub passes : head_of m.octets ≡ Is (headed m)
+  pub passes : head_of m.octets ≡ Some (headed m)
   pub local : (headed m).reference ≢ 0
 
 -- "A flagged reference is the flag and the 23-bit value as received"

@@ -17,9 +17,9 @@ use lib.Dec.{eqb, ltb}
 use lib.ListN.{length, replicate, length-append, length-replicate}
 use lib.Seq.{take-append_seam}
 use borrow.Author.Tests.{ltb-true, ltb-false, leb-false, eqb-true, eqb-false, lt-ltb, le-ltb, eq-eqb}
-use Rattle.channels.specs.Some.{some_of}
+use Rattle.std.specs.List.{list_any}
 use Rattle.channels.specs.declared.Named.{Named}
-use Rattle.channels.specs.declared.Named.TheVariants.{All, Pair}
+use Rattle.channels.specs.declared.Named.TheVariants.{All, One}
 use Rattle.channels.proofs.Cases.{by_test, clash, both}
 use Rattle.pairs.specs.Pairs.{room, pair_number, is_number, listed, packed, no_pairs, is_full, in_pairs, inserted, with_pair, removed, without_pair, names, unless_named, leads, ascending, Tidy}
 use Rattle.pairs.specs.declared.Pairs.{Pairs}
@@ -77,10 +77,10 @@ pub or_swap : (a b c : Bool) → (a || (b || c)) ≡ (b || (a || c))
 or_swap true b c = sym (or-true b)
 or_swap false b c = refl
 
-pub some_inserted : (t : ℕ → Bool) (n : ℕ) (xs : List ℕ) → some_of t (inserted n xs) ≡ (t n || some_of t xs)
+pub some_inserted : (t : ℕ → Bool) (n : ℕ) (xs : List ℕ) → list_any t (inserted n xs) ≡ (t n || list_any t xs)
 some_inserted t n [] = refl
 some_inserted t n (x ∷ xs) =
-    by_test (ltb x n) (λ e. rw (e, some_inserted t n xs) (or_swap (t x) (t n) (some_of t xs))) (λ e. rw (e, some_inserted t x xs))
+    by_test (ltb x n) (λ e. rw (e, some_inserted t n xs) (or_swap (t x) (t n) (list_any t xs))) (λ e. rw (e, some_inserted t x xs))
 
 -- a number below all others stays in front of them
 pub inserted-lowest : (x : ℕ) (xs : List ℕ) → ascending (x ∷ xs) ≡ true → inserted x xs ≡ x ∷ xs
@@ -94,7 +94,7 @@ pub leads-inserted : (x n : ℕ) (xs : List ℕ) → x < n → leads x xs ≡ tr
 leads-inserted x n [] h l = lt-ltb x n h
 leads-inserted x n (y ∷ ys) h l = by_test (ltb y n) (λ t. rw t l) (λ t. rw t (lt-ltb x n h))
 
-pub inserted-ascending : (p v : ℕ) (xs : List ℕ) → v < 65536 → some_of (is_number p v) xs ≡ false → ascending xs ≡ true → ascending (inserted (pair_number p v) xs) ≡ true
+pub inserted-ascending : (p v : ℕ) (xs : List ℕ) → v < 65536 → list_any (is_number p v) xs ≡ false → ascending xs ≡ true → ascending (inserted (pair_number p v) xs) ≡ true
 inserted-ascending p v [] h o a = refl
 inserted-ascending p v (x ∷ xs) h o a =
     let n = pair_number p v in
@@ -128,7 +128,7 @@ removed-length p v (x ∷ xs) =
     let k = removed-length p v xs in
     by_test (is_number p v x) (λ t. rw t (omega arith)) (λ t. rw t (omega arith))
 
-pub some_removed : (p v q w : ℕ) (xs : List ℕ) → some_of (is_number q w) (removed p v xs) ≡ (not (eqb p q && eqb v w) && some_of (is_number q w) xs)
+pub some_removed : (p v q w : ℕ) (xs : List ℕ) → list_any (is_number q w) (removed p v xs) ≡ (not (eqb p q && eqb v w) && list_any (is_number q w) xs)
 some_removed p v q w [] = sym (and-false (not (eqb p q && eqb v w)))
 some_removed p v q w (x ∷ xs) =
     by_test (is_number p v x)
@@ -172,8 +172,8 @@ without_tidy ps p v t =
 -- the pairs that are named
 pub unless_in : (ps : Pairs) (n : Named) (q w : ℕ) → in_pairs (unless_named ps n) q w ≡ (not (names n q w) && in_pairs ps q w)
 unless_in ps All q w = none_in q w
-unless_in ps (Pair p v) q w = without_in ps p v q w
+unless_in ps (One pv) q w = without_in ps pv.vpci pv.vci q w
 
 pub unless_tidy : (ps : Pairs) (n : Named) → Tidy ps → Tidy (unless_named ps n)
 unless_tidy ps All t = none_tidy
-unless_tidy ps (Pair p v) t = without_tidy ps p v t
+unless_tidy ps (One pv) t = without_tidy ps pv.vpci pv.vci t

@@ -1,6 +1,7 @@
 -- Laws of the loops over pairs. `Pairs` cites them.
 --   Span                        how many pairs there are
 --   span_count, span-size       as many as the count says; as many as `size` says
+--   take_size                   the pairs that there are stand in front
 --   listed_next                 the pair at hand and those behind it
 --   Filled                      an array whose numbers from the i-th on are zeros
 --   filled_none, filled_more, filled_all
@@ -40,6 +41,13 @@ module _ (ps : Pairs) (h : length ps.numbers ≡ room) where
       by_test (ltb ps.count room)
       (λ t. let k = ltb-true ps.count room t in rw t (span_count (omega arith)))
       (λ t. let k = ltb-false ps.count room t in rw t (record { long = rw (take_all ps.count ps.numbers (omega arith)) h; low = k; most = omega arith }))
+
+-- the pairs that there are stand in front, however many `size` says
+pub take_size : (ps : Pairs) → length ps.numbers ≡ room → take (size ps) ps.numbers ≡ listed ps
+take_size ps h =
+    by_test (ltb ps.count room)
+    (λ t. rw t refl)
+    (λ t. let k = ltb-false ps.count room t in rw t (take_all room ps.numbers (omega arith) ∙ sym (take_all ps.count ps.numbers (omega arith))))
 
 pub listed_next : (ps : Pairs) (n i : ℕ) → Span ps n → i < n → drop i (listed ps) ≡ get_or ps.numbers i 0 ∷ drop (i + 1) (listed ps)
 listed_next ps n i s h =

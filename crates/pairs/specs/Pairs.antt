@@ -10,9 +10,9 @@
 --   leads, ascending, Tidy      the numbers ascend; pairs as our functions make them
 -- `inserted`, `removed`, `leads` and `ascending` are over lists of any length. Assumes nothing.
 use Rattle.std.specs.Prelude.{ℕ, ◌+◌, ◌-◌, ◌*◌, ◌/◌, ◌%◌, ◌≤◌, ◌≡◌, Bool, true, cond, ◌&&◌, List, [], ◌∷◌, ◌++◌, eqb, leb, ltb, length, take, replicate}
-use Rattle.channels.specs.Some.{some_of}
+use Rattle.std.specs.List.{list_any}
 use Rattle.channels.specs.declared.Named.{Named}
-use Rattle.channels.specs.declared.Named.TheVariants.{All, Pair}
+use Rattle.channels.specs.declared.Named.TheVariants.{All, One}
 use Rattle.pairs.specs.declared.Pairs.{Pairs}
 
 -- "At most 64 pairs are in doubt"
@@ -43,7 +43,7 @@ abbrev pub is_full : Pairs → Bool
 is_full ps = leb room ps.count
 
 abbrev pub in_pairs : Pairs → ℕ → ℕ → Bool
-in_pairs ps p v = some_of (is_number p v) (listed ps)
+in_pairs ps p v = list_any (is_number p v) (listed ps)
 
 -- a number goes in before the first that is not lower
 abbrev pub inserted : ℕ → List ℕ → List ℕ
@@ -63,12 +63,12 @@ without_pair ps p v = packed (removed p v (listed ps))
 -- "names it, or all"
 abbrev pub names : Named → ℕ → ℕ → Bool
 names All q w = true
-names (Pair p v) q w = eqb p q && eqb v w
+names (One pv) q w = eqb pv.vpci q && eqb pv.vci w
 
 -- "A user's RESTART that names it, or all, ends the doubt."
 abbrev pub unless_named : Pairs → Named → Pairs
 unless_named ps All = no_pairs
-unless_named ps (Pair p v) = without_pair ps p v
+unless_named ps (One pv) = without_pair ps pv.vpci pv.vci
 
 abbrev pub leads : ℕ → List ℕ → Bool
 leads n [] = true

@@ -10,9 +10,9 @@
 #![tactic(auto)]
 
 ghost use Rattle.std.specs.Prelude.{◌≡◌, ◌≤◌};
-ghost use Rattle.pairs.specs.Pairs.{pair_number, is_number, room, no_pairs, size, is_full, in_pairs, with_pair, without_pair, unless_named};
+ghost use Rattle.pairs.specs.Pairs.{pair_number, is_number, room, no_pairs, listed, size, is_full, in_pairs, with_pair, without_pair, unless_named};
 
-use channels::Named;
+use channels::{Named, Pair};
 
 pub const ROOM: usize = 64;
 
@@ -24,29 +24,25 @@ pub struct Pairs {
 }
 
 // VPCI and VCI as one number: pairs ascend as their numbers do.
-pub fn number(vpci: u16, vci: u16) -> u32
-    ensures { result ≡ pair_number vpci vci }
+pub fn number(pair: Pair) -> u32
+    ensures { result ≡ pair_number pair.vpci pair.vci }
 {
-    vpci as u32 * 65536 + vci as u32
+    pair.vpci as u32 * 65536 + pair.vci as u32
 }
 
-fn is_number(n: u32, vpci: u16, vci: u16) -> bool
-    ensures { result ≡ is_number vpci vci n }
+fn is_number(n: u32, pair: Pair) -> bool
+    ensures { result ≡ is_number pair.vpci pair.vci n }
 {
-    if n / 65536 == vpci as u32 {
-        return n % 65536 == vci as u32;
-    }
-    false
+    n / 65536 == pair.vpci as u32 && n % 65536 == pair.vci as u32
 }
 
 impl Pairs {
     pub fn none() -> Pairs
         ensures { result ≡ no_pairs }
     {
-        let numbers = [0; ROOM];
         Pairs {
             count: 0,
-            numbers: numbers,
+            numbers: [0; ROOM],
         }
     }
 
@@ -54,10 +50,7 @@ impl Pairs {
         ensures value { result ≡ size self }
         ensures most { result ≤ room }
     {
-        if self.count < ROOM {
-            return self.count;
-        }
-        ROOM
+        self.count.min(ROOM)
     }
 
     pub fn is_full(self) -> bool
@@ -66,29 +59,29 @@ impl Pairs {
         ROOM <= self.count
     }
 
-    pub fn has(self, vpci: u16, vci: u16) -> bool
-        ensures { result ≡ in_pairs self vpci vci }
+    // The numbers of the pairs that there are.
+    #[tactic(auto, using(crate::proofs::Places::take_size))]
+    pub fn listed(&self) -> &[u32]
+        ensures { result.now ≡ listed self.now }
     {
-        let n = self.size();
-        let mut i: usize = 0;
-        while i < n {
-            if is_number(self.numbers[i], vpci, vci) {
-                return true;
-            }
-            i += 1;
-        }
-        false
+        &self.numbers[..self.size()]
+    }
+
+    pub fn has(self, pair: Pair) -> bool
+        ensures { result ≡ in_pairs self pair.vpci pair.vci }
+    {
+        self.listed().iter().any(|number| is_number(*number, pair))
     }
 
     // One pair more, at its place; as they are where there is no room.
-    pub fn with(self, vpci: u16, vci: u16) -> Pairs
-        ensures { result ≡ with_pair self vpci vci }
+    pub fn with(self, pair: Pair) -> Pairs
+        ensures { result ≡ with_pair self pair.vpci pair.vci }
     {
         if self.is_full() {
             return self;
         }
         let n = self.count;
-        let mut carried = number(vpci, vci);
+        let mut carried = number(pair);
         let mut numbers = [0; ROOM];
         for i in 0..n {
             let next = self.numbers[i];
@@ -102,20 +95,20 @@ impl Pairs {
         numbers[n] = carried;
         Pairs {
             count: n + 1,
-            numbers: numbers,
+            numbers,
         }
     }
 
     // One pair less: those behind it come one nearer.
-    pub fn without(self, vpci: u16, vci: u16) -> Pairs
-        ensures { result ≡ without_pair self vpci vci }
+    pub fn without(self, pair: Pair) -> Pairs
+        ensures { result ≡ without_pair self pair.vpci pair.vci }
     {
         let n = self.size();
         let mut numbers = [0; ROOM];
         let mut kept: usize = 0;
         for i in 0..n {
             let next = self.numbers[i];
-            if is_number(next, vpci, vci) {
+            if is_number(next, pair) {
                 continue;
             }
             numbers[kept] = next;
@@ -123,7 +116,7 @@ impl Pairs {
         }
         Pairs {
             count: kept,
-            numbers: numbers,
+            numbers,
         }
     }
 
@@ -133,7 +126,7 @@ impl Pairs {
     {
         match named {
             Named::All => Pairs::none(),
-            Named::Pair(vpci, vci) => self.without(vpci, vci),
+            Named::One(pair) => self.without(pair),
         }
     }
 }

@@ -12,7 +12,7 @@ use native.Mathlib.Omega.{arith}
 use lib.Dec.{eqb, leb, ltb}
 use lib.ListN.{length, get_or}
 use borrow.Author.Tests.{leb-true, ltb-true, lt-ltb}
-use Rattle.channels.specs.Some.{some_of}
+use Rattle.std.specs.List.{list_any}
 use Rattle.channels.specs.Channels.{in_range, in_ranges, no_range}
 use Rattle.channels.specs.declared.Range.{Range}
 use Rattle.channels.proofs.Cases.{by_test, clash, both}
@@ -57,7 +57,7 @@ module _ {A : Type 0} (f : ℕ → A) where
   get_d_numbered k (suc n) zero d h = ap f (let e : k ≡ k + 0 = omega arith in e)
   get_d_numbered k (suc n) (suc i) d h = get_d_numbered (k + 1) n i d (omega arith) ∙ ap f (let e : (k + 1) + i ≡ k + suc i = omega arith in e)
 
-  pub some_numbered : (p : A → Bool) (k n : ℕ) → some_of p (numbered f k n) ≡ true → (j : ℕ) × ((k ≤ j) × (p (f j) ≡ true))
+  pub some_numbered : (p : A → Bool) (k n : ℕ) → list_any p (numbered f k n) ≡ true → (j : ℕ) × ((k ≤ j) × (p (f j) ≡ true))
   some_numbered p k zero e = clash e refl
   some_numbered p k (suc n) e =
       by_test (p (f k))

@@ -4,6 +4,7 @@
 --   lowest-least          of any ascending ranges
 --   provision-lowest      of an accepted provision
 -- Assumes nothing.
+use Rattle.std.specs.Prelude.{Option, Some}
 use Prim.Native.Nat.{ℕ, zero, suc, ◌+◌, ◌-◌, ◌*◌, ◌/◌, ◌≤◌, ◌<◌}
 use mathlib.Core.Path.{◌≡◌, refl}
 use mathlib.Core.Logic.{⊎_elim}
@@ -13,9 +14,8 @@ use native.Mathlib.Omega.{arith}
 use lib.Dec.{eqb, ltb}
 use lib.ListN.{length}
 use borrow.Author.Tests.{ne_eqb, eqb-true, eqb-false, ltb-true}
-use Rattle.channels.specs.Channels.{in_range, in_ranges, scan, lowest}
-use Rattle.channels.specs.declared.Channel.{Channel}
-use Rattle.channels.specs.declared.Channel.TheVariants.{Pair}
+use Rattle.channels.specs.Channels.{pair, in_range, in_ranges, scan, lowest}
+use Rattle.channels.specs.declared.Pair.{Pair}
 use Rattle.channels.specs.declared.Range.{Range}
 use Rattle.channels.proofs.Cases.{by_test, clash, both}
 use Rattle.channels.proofs.Lowest.{Scanned, within, within_in, scan_pair}
@@ -39,7 +39,7 @@ abbrev pub Sorted : List Range → Type 0
 Sorted [] = Unit {0}
 Sorted (r ∷ rs) = ((p v q w : ℕ) → in_range p v r ≡ true → in_ranges q w rs ≡ true → order p v < order q w) × Sorted rs
 
-pub scan-least : (t : ℕ → ℕ → Bool) (q : ℕ) (rest : Channel) (n w p v u : ℕ) → scan t q n w rest ≡ Pair p v → w ≤ u → u < w + n → t q u ≡ false → (p ≡ q) × (v ≤ u)
+pub scan-least : (t : ℕ → ℕ → Bool) (q : ℕ) (rest : Option Pair) (n w p v u : ℕ) → scan t q n w rest ≡ Some (pair p v) → w ≤ u → u < w + n → t q u ≡ false → (p ≡ q) × (v ≤ u)
 scan-least t q rest zero w p v u e low high f = absurd (omega arith)
 scan-least t q rest (suc n) w p v u e low high f =
     by_test (t q w)
@@ -48,11 +48,11 @@ scan-least t q rest (suc n) w p v u e low high f =
     (λ same. clash named (rw (eqb-true w u same) f))
     (λ other. scan-least t q rest n (w + 1) p v u (rw named at e) (omega (arith, eqb-false w u other)) (omega arith) f))
     (λ free.
-    let found : Pair q w ≡ Pair p v = rw free at e in
+    let found : Some (pair q w) ≡ Some (pair p v) = rw free at e in
     let here : w ≡ v = cc in
     (cc, omega arith))
 
-pub lowest-least : (t : ℕ → ℕ → Bool) (rs : List Range) (p v q w : ℕ) → Sorted rs → lowest t rs ≡ Pair p v → in_ranges q w rs ≡ true → t q w ≡ false
+pub lowest-least : (t : ℕ → ℕ → Bool) (rs : List Range) (p v q w : ℕ) → Sorted rs → lowest t rs ≡ Some (pair p v) → in_ranges q w rs ≡ true → t q w ≡ false
     → order p v ≤ order q w
 lowest-least t [] p v q w s e h f = clash h refl
 lowest-least t (r ∷ rs) p v q w s e h f =
@@ -66,7 +66,7 @@ lowest-least t (r ∷ rs) p v q w s e h f =
     (λ (d : Scanned t r.vpci ((r.last + 1) - r.first) r.first p v).
     let lt = s.0 p v q w (within_in p v r (record { same = d.same; low = d.low; high = omega (arith, d.low, d.high) })) (rw there at h) in
     omega arith)
-    (λ (e' : lowest t rs ≡ Pair p v). lowest-least t rs p v q w s.1 e' (rw there at h) f)
+    (λ (e' : lowest t rs ≡ Some (pair p v)). lowest-least t rs p v q w s.1 e' (rw there at h) f)
     (scan_pair t r.vpci (lowest t rs) ((r.last + 1) - r.first) r.first p v e))
 
 -- where the first n of `at` ascend and keep the limits, and no other has a pair
@@ -103,7 +103,7 @@ module _ (at : ℕ → Range) (n : ℕ) (ascend : ascending at n ≡ true) (each
   )
 
 pub provision-lowest : (rs ps : List ℕ) (t : ℕ → ℕ → Bool) (p v q w : ℕ) → (provision rs ps).accepted ≡ true
-    → lowest t (provision rs ps).pool.ranges ≡ Pair p v → in_ranges q w (provision rs ps).pool.ranges ≡ true → t q w ≡ false
+    → lowest t (provision rs ps).pool.ranges ≡ Some (pair p v) → in_ranges q w (provision rs ps).pool.ranges ≡ true → t q w ≡ false
     → before q w p v ≡ false
 provision-lowest rs ps t p v q w e found in-range f =
     let a = accepted_lists rs ps e in

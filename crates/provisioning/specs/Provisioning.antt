@@ -7,10 +7,9 @@
 --   ranges_ok, pairs_ok              a list that breaks no rule
 --   numbered, pool_of, refused, provision     what start makes of its lists
 -- Assumes nothing.
-use Rattle.std.specs.Prelude.{ℕ, zero, suc, ◌+◌, ◌-◌, ◌*◌, ◌/◌, ◌%◌, Bool, true, false, cond, ◌&&◌, ◌||◌, List, [], ◌∷◌, eqb, leb, ltb, length, get_or}
-use Rattle.channels.specs.Channels.{no_range, no_entry, empty_pool}
-use Rattle.channels.specs.declared.Channel.TheVariants.{Pair}
-use Rattle.channels.specs.declared.Entry.{Entry}
+use Rattle.std.specs.Prelude.{ℕ, zero, suc, ◌+◌, ◌-◌, ◌*◌, ◌/◌, ◌%◌, Bool, true, false, cond, ◌&&◌, ◌||◌, List, [], ◌∷◌, eqb, leb, ltb, length, get_or, Option, Some}
+use Rattle.channels.specs.Channels.{pair, no_range, empty_pool}
+use Rattle.channels.specs.declared.Pair.{Pair}
 use Rattle.channels.specs.declared.Range.{Range}
 use Rattle.channels.specs.declared.Pool.{Pool}
 use Rattle.provisioning.specs.declared.Provision.{Provision}
@@ -29,11 +28,11 @@ single_at s k =
     (record { vpci = get_or s (k * 2) 0; first = get_or s (k * 2 + 1) 0; last = get_or s (k * 2 + 1) 0 })
     no_range
 
-abbrev pub entry_at : List ℕ → ℕ → Entry
+abbrev pub entry_at : List ℕ → ℕ → Option Pair
 entry_at s k =
     cond (ltb k (length s / 2))
-    (record { channel = Pair (get_or s (k * 2) 0) (get_or s (k * 2 + 1) 0) })
-    no_entry
+    (Some (pair (get_or s (k * 2) 0) (get_or s (k * 2 + 1) 0)))
+    None
 
 abbrev pub all_below : (ℕ → Bool) → ℕ → Bool
 all_below p zero = true

@@ -2,6 +2,7 @@
 --   octets-read_back     the octets of every well-formed message read as that message
 --   written_octets       and each of them is below 256
 -- Assumes nothing.
+use Rattle.std.specs.Prelude.{Some}
 use Prim.Native.Nat.{ℕ, ◌+◌, ◌-◌, ◌/◌, ◌%◌, ◌<◌}
 use mathlib.Core.Path.{◌≡◌, refl, ◌∙◌}
 use mathlib.Core.Bool.{Bool, true, false, cond}
@@ -12,7 +13,6 @@ use lib.ListN.{length}
 use Rattle.octets.specs.Octets.{high, low, number}
 use Rattle.octets.proofs.Numbers.{number_back, flag_back, reference_back}
 use Rattle.header.specs.Header.{head_of}
-use Rattle.header.specs.declared.Head.TheVariants.{Is}
 use Rattle.replies.specs.Message.{Element, body, Message, header, octets}
 use Rattle.readback.specs.ReadBack.{read_message, reads, Octets, EachFits, none, more, WellFormed}
 use Rattle.readback.proofs.Octets.{no_octets, octets_cons, octets-append}
@@ -20,7 +20,7 @@ use Rattle.readback.proofs.Walked.{walked}
 
 -- the header of a written message says what it was given
 header_back : (flag : Bool) (r kind : ℕ) (rest : List ℕ) → r < 8388608 → length rest < 65536
-    → head_of (header flag r kind (length rest) ++ rest) ≡ Is (record { flag = flag; reference = r; kind = kind; whole = true })
+    → head_of (header flag r kind (length rest) ++ rest) ≡ Some (record { flag = flag; reference = r; kind = kind; whole = true })
 header_back flag r kind rest h small =
     let m = header flag r kind (length rest) ++ rest in
     rw (

@@ -4,10 +4,9 @@
 --   Octets, Fits, EachFits      numbers that are octets; an element, and elements, whose parts fit their octets
 --   WellFormed                  a message whose parts fit their octets
 -- Assumes nothing.
-use Rattle.std.specs.Prelude.{ℕ, ◌<◌, ◌&&◌, cond, List, [], ◌∷◌, length, get_or}
+use Rattle.header.specs.declared.Header.{Header}
+use Rattle.std.specs.Prelude.{ℕ, ◌<◌, ◌&&◌, cond, List, [], ◌∷◌, length, get_or, Option, Some, None}
 use Rattle.octets.specs.Octets.{part}
-use Rattle.header.specs.declared.Head.{Head}
-use Rattle.header.specs.declared.Head.TheVariants.{Ignored, Is}
 use Rattle.header.specs.Header.{head_of}
 use Rattle.items.specs.declared.Item.{Item}
 use Rattle.items.specs.declared.Item.TheVariants.{End, Overrun, Whole}
@@ -29,9 +28,9 @@ pub data Reading : Type 0 where
   reads : Message → Reading
 
 -- the length field is right, and what follows octet 9 is a whole number of elements
-abbrev pub read_under : List ℕ → Head → Reading
-read_under m Ignored = unreadable
-read_under m (Is h) = cond (h.whole && whole_from m 9) (reads (message h.flag h.reference h.kind (elements_in m 9))) unreadable
+abbrev pub read_under : List ℕ → Option Header → Reading
+read_under m None = unreadable
+read_under m (Some h) = cond (h.whole && whole_from m 9) (reads (message h.flag h.reference h.kind (elements_in m 9))) unreadable
 
 -- "The mission's three header checks are steps 1 and 2."
 abbrev pub read_message : List ℕ → Reading

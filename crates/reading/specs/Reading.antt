@@ -12,10 +12,11 @@
 --   slots_in                   the slots
 --   table_with, table_in        the table, of so many slots: with a pool, and with its own
 -- Assumes nothing.
+use Rattle.channels.specs.Channels.{pair}
 use Rattle.std.specs.Prelude.{ℕ, zero, suc, ◌+◌, ◌*◌, ◌/◌, ◌%◌, Bool, cond, ◌&&◌, List, [], ◌∷◌, eqb, leb, ltb, length, get_or, drop}
 use Rattle.octets.specs.Octets.{number}
 use Rattle.channels.specs.declared.Named.{Named}
-use Rattle.channels.specs.declared.Named.TheVariants.{All, Pair}
+use Rattle.channels.specs.declared.Named.TheVariants.{All, One}
 use Rattle.channels.specs.declared.Pool.{Pool}
 use Rattle.pairs.specs.declared.Pairs.{Pairs}
 use Rattle.pairs.specs.Pairs.{room, packed}
@@ -81,7 +82,7 @@ out_in f = record { all = eqb (get_or f 3 0) 1; pairs = pairs_in 4 f }
 
 -- behind tag and length: 3 first or second T316, 4 the deadline, and for one pair 12 VPCI, 14 VCI
 abbrev pub named_in : List ℕ → Named
-named_in f = cond (eqb (two_at f 1) 13) (Pair (two_at f 12) (two_at f 14)) All
+named_in f = cond (eqb (two_at f 1) 13) (One (pair (two_at f 12) (two_at f 14))) All
 
 abbrev pub request_in : List ℕ → GlobalState
 request_in f = cond (eqb (two_at f 1) 0) Null (RestartRequest (named_in f) (eqb (get_or f 3 0) 2) (eight_at f 4))
@@ -102,8 +103,7 @@ reference_in f = get_or f 4 0 % 128 * 65536 + get_or f 5 0 * 256 + get_or f 6 0
 abbrev pub call_in : List ℕ → Call
 call_in f = record {
   network = leb 128 (get_or f 4 0);
-  vpci = two_at f 7;
-  vci = two_at f 9;
+  pair = pair (two_at f 7) (two_at f 9);
   reference = reference_in f;
 }
 

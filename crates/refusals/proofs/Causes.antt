@@ -9,11 +9,11 @@ use mathlib.Core.List.{List, [], ◌∷◌}
 use lib.Dec.{eqb, ltb}
 use borrow.Author.Tests.{eqb-true, ltb-true}
 use Rattle.traffic.specs.Traffic.{member}
-use Rattle.channels.specs.Some.{some_of}
+use Rattle.std.specs.List.{list_any}
 use Rattle.channels.proofs.Cases.{by_test, clash}
 use Rattle.refusals.specs.Refusals.{host_causes}
 
-pub member-passes : (q : ℕ → Bool) (n : ℕ) (xs : List ℕ) → some_of (λ x. not (q x)) xs ≡ false → member n xs ≡ true → q n ≡ true
+pub member-passes : (q : ℕ → Bool) (n : ℕ) (xs : List ℕ) → list_any (λ x. not (q x)) xs ≡ false → member n xs ≡ true → q n ≡ true
 member-passes q n [] all e = clash e refl
 member-passes q n (x ∷ xs) all e =
     by_test (q x)

@@ -8,10 +8,9 @@
 --   body_refusal, slot_refusal, pair_refusal, offer_refusal             10 to 12
 --   may_restart, target_refusal, restart_refusal                       13
 -- 0 says that nothing is refused. Assumes nothing.
-use Rattle.std.specs.Prelude.{ℕ, Bool, true, false, cond, List, [], ◌∷◌, eqb, ltb, length}
+use Rattle.std.specs.Prelude.{ℕ, Bool, true, false, cond, List, [], ◌∷◌, eqb, ltb, length, Option, Some, None}
 use Rattle.traffic.specs.Traffic.{member}
-use Rattle.channels.specs.declared.Channel.{Channel}
-use Rattle.channels.specs.declared.Channel.TheVariants.{None, Pair}
+use Rattle.channels.specs.declared.Pair.{Pair}
 use Rattle.channels.specs.declared.Pool.{Pool}
 use Rattle.channels.specs.Channels.{permitted}
 use Rattle.calls.specs.declared.State.{State}
@@ -20,8 +19,6 @@ use Rattle.calls.specs.declared.Hold.{Hold}
 use Rattle.calls.specs.declared.Hold.TheVariants.{Empty, Live}
 use Rattle.calls.specs.Calls.{is_empty}
 use Rattle.calls.specs.Timers.{largest_reading}
-use Rattle.first.specs.declared.Found.{Found}
-use Rattle.first.specs.declared.Found.TheVariants.{Nothing, At}
 use Rattle.first.specs.First.{place}
 use Rattle.replies.specs.Reply.{reply_room, body_room}
 use Rattle.setup.specs.Offer.{offer_fits}
@@ -94,13 +91,13 @@ clear_refusal last label reading room hold cause =
 abbrev pub body_refusal : List ℕ → ℕ
 body_refusal body = cond (ltb body_room (length body)) 10 (cond (offer_fits body) 0 10)
 
-abbrev pub slot_refusal : Found → ℕ
-slot_refusal Nothing = 11
-slot_refusal (At i) = 0
+abbrev pub slot_refusal : Option ℕ → ℕ
+slot_refusal None = 11
+slot_refusal (Some i) = 0
 
-abbrev pub pair_refusal : Channel → ℕ
+abbrev pub pair_refusal : Option Pair → ℕ
 pair_refusal None = 12
-pair_refusal (Pair p v) = 0
+pair_refusal (Some pv) = 0
 
 abbrev pub offer_refusal : Table → ℕ → ℕ → ℕ → List ℕ → ℕ
 offer_refusal t label reading room body =

@@ -7,9 +7,10 @@
 --   expire_second, expire_effect   T316 runs out: a second time, and at all
 --   put_back                   the host puts all marked pairs back
 -- Assumes nothing.
+use Rattle.channels.specs.Channels.{pair}
 use Rattle.std.specs.Prelude.{ℕ, ◌+◌, ◌<◌, Bool, true, false, cond, ◌&&◌, eqb}
 use Rattle.channels.specs.declared.Named.{Named}
-use Rattle.channels.specs.declared.Named.TheVariants.{All, Pair}
+use Rattle.channels.specs.declared.Named.TheVariants.{All, One}
 use Rattle.elements.specs.declared.ConnectionRead.{ConnectionRead}
 use Rattle.elements.specs.declared.ConnectionRead.TheVariants as connection_read
 use Rattle.elements.specs.declared.RestartRead.{RestartRead}
@@ -32,7 +33,7 @@ use Rattle.restarts.specs.declared.Target.TheVariants as target
 -- "The host may restart one pair or all."
 abbrev pub named_by : Target → Named
 named_by target.All = All
-named_by (target.One p v) = Pair p v
+named_by (target.One p v) = One (pair p v)
 
 abbrev pub Fits : Target → Type 0
 Fits target.All = Unit {0}
@@ -41,7 +42,7 @@ Fits (target.One p v) = (p < 65536) × (v < 65536)
 -- "79 and for one pair 5A"
 abbrev pub restart_of : Named → Reply
 restart_of All = reply.RestartAll
-restart_of (Pair p v) = reply.Restart p v
+restart_of (One pv) = reply.Restart pv.vpci pv.vci
 
 -- "We send RESTART with global reference and flag 0, 79 and for one pair 5A, start T316 of 120,000 ms"
 abbrev pub requested : ℕ → Named → Bool → Effect
@@ -64,7 +65,7 @@ is_connection p v (connection_read.Pair q w) = eqb q p && eqb w v
 
 abbrev pub is_same : Named → RestartRead → ConnectionRead → Bool
 is_same All r c = is_class 0x82 r
-is_same (Pair p v) r c = is_class 0x80 r && is_connection p v c
+is_same (One pv) r c = is_class 0x80 r && is_connection pv.vpci pv.vci c
 
 -- "ends the RESTART ..; Any other is discarded"
 abbrev pub acknowledge_effect : GlobalState → RestartRead → ConnectionRead → Effect

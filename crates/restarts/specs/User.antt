@@ -5,7 +5,7 @@
 --   restart_effect     the whole row
 -- Assumes nothing.
 use Rattle.std.specs.Prelude.{ℕ, true, cond, ◌||◌, eqb, ltb}
-use Rattle.channels.specs.Channels.{permanent, known_vpci}
+use Rattle.channels.specs.Channels.{pair, permanent, known_vpci}
 use Rattle.channels.specs.declared.Named.{Named}
 use Rattle.channels.specs.declared.Named.TheVariants as named
 use Rattle.channels.specs.declared.Pool.{Pool}
@@ -42,7 +42,7 @@ pair_restart state pool (connection_read.Pair p v) =
     cond (known_vpci pool p)
     (cond (ltb v 32 || permanent pool p v)
     (restart_status state 82 (diagnostic.Pair p v))
-    (restarting (named.Pair p v) (reply.RestartAcknowledge p v)))
+    (restarting (named.One (pair p v)) (reply.RestartAcknowledge p v)))
     (restart_status state 100 (diagnostic.Octet 0x5A))
 
 -- "79 absent, STATUS 96; unreadable, STATUS 100; both with diagnostic 79. .. or all calls for 82 (5A not looked at), are gone"

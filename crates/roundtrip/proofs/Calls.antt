@@ -34,8 +34,8 @@ StateFits N10 = Unit {0}
 StateFits (N12 k d) = (d < 18446744073709551616) × (k.expired ≡ eqb k.cause 102)
 
 pub record CallFits (c : Call) (q : State) : Type 0 where
-  pub vpci : c.vpci < 65536
-  pub vci : c.vci < 65536
+  pub vpci : c.pair.vpci < 65536
+  pub vci : c.pair.vci < 65536
   pub reference : c.reference < 8388608
   pub state : StateFits q
 
@@ -61,8 +61,8 @@ call_back slot c q post s =
     rw (
       flag_back c.network c.reference,
       reference_back c.network c.reference s.reference,
-      number_back c.vpci s.vpci,
-      number_back c.vci s.vci,
+      number_back c.pair.vpci s.vpci,
+      number_back c.pair.vci s.vci,
     )
 
 -- a call's field is short

@@ -11,7 +11,7 @@ use native.Mathlib.Omega.{arith}
 use lib.Dec.{ltb}
 use lib.ListN.{length, get_or, get_or-eq_default}
 use borrow.Author.Tests.{eq-eqb, ltb-true, ltb-false}
-use Rattle.channels.specs.Some.{some_of}
+use Rattle.std.specs.List.{list_any}
 use Rattle.channels.specs.Channels.{permitted}
 use Rattle.channels.proofs.Cases.{by_test}
 use Rattle.channels.proofs.Some.{some_at, some_none}
@@ -41,7 +41,7 @@ pairs_fit ps t each = record {
 
 pub record Alone (t : Table) (others : Pairs) (p v : ℕ) : Type 0 where
   pub allowed : permitted t.pool p v ≡ true
-  pub unheld : some_of (holds_pair p v) t.slots.all ≡ false
+  pub unheld : list_any (holds_pair p v) t.slots.all ≡ false
   pub elsewhere : in_pairs others p v ≡ false
 
 pub pairs_kept_lem : (t : Table) (others ps : Pairs) → Tidy ps → ((p v : ℕ) → in_pairs ps p v ≡ true → Alone t others p v) → pairs_kept t others ps ≡ true

@@ -16,7 +16,7 @@ use lib.Seq.{drop-append_seam}
 use borrow.Author.Tests.{le-ltb}
 use Rattle.octets.proofs.Numbers.{number_back}
 use Rattle.pairs.specs.Pairs.{room, packed}
-use Rattle.channels.specs.declared.Named.TheVariants.{All, Pair}
+use Rattle.channels.specs.declared.Named.TheVariants.{All, One}
 use Rattle.service.specs.declared.GlobalState.{GlobalState}
 use Rattle.service.specs.declared.GlobalState.TheVariants.{Null, RestartRequest}
 use Rattle.fields.specs.Fields.{two, four, field, request_octets}
@@ -82,12 +82,12 @@ out_back tag all ns post h few =
 abbrev pub RequestFits : GlobalState → Type 0
 RequestFits Null = Unit {0}
 RequestFits (RestartRequest All second d) = d < 18446744073709551616
-RequestFits (RestartRequest (Pair p v) second d) = (p < 65536) × (v < 65536) × (d < 18446744073709551616)
+RequestFits (RestartRequest (One pv) second d) = (pv.vpci < 65536) × (pv.vci < 65536) × (d < 18446744073709551616)
 
 pub request_short : (g : GlobalState) → length (request_octets g) < 65536
 request_short Null = omega arith
 request_short (RestartRequest All second d) = omega arith
-request_short (RestartRequest (Pair p v) second d) = omega arith
+request_short (RestartRequest (One pv) second d) = omega arith
 
 second_back : (s : Bool) → eqb (cond s 2 1) 2 ≡ s
 second_back true = refl
@@ -96,5 +96,5 @@ second_back false = refl
 pub request_back : (tag : ℕ) (g : GlobalState) (post : List ℕ) → RequestFits g → request_in (field tag (request_octets g) ++ post) ≡ g
 request_back tag Null post fits = refl
 request_back tag (RestartRequest All second d) post fits = rw (second_back second, eight_back d fits)
-request_back tag (RestartRequest (Pair p v) second d) post fits =
-    rw (second_back second, number_back p fits.0, number_back v fits.1, eight_back d fits.2)
+request_back tag (RestartRequest (One pv) second d) post fits =
+    rw (second_back second, number_back pv.vpci fits.0, number_back pv.vci fits.1, eight_back d fits.2)

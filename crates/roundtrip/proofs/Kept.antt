@@ -3,6 +3,7 @@
 --   only_place         the one slot that passes a test is the first
 --   sound_kept         every slot
 -- Assumes nothing.
+use Rattle.std.specs.Prelude.{Option, Some, None}
 use Prim.Native.Nat.{ℕ, zero, suc, ◌<◌}
 use mathlib.Core.Path.{◌≡◌, refl}
 use mathlib.Core.Bool.{Bool, true}
@@ -19,8 +20,6 @@ use Rattle.calls.specs.declared.Hold.TheVariants.{Empty, Live}
 use Rattle.calls.specs.declared.Slot.{Slot}
 use Rattle.calls.specs.Calls.{no_slot, refers_to, pair_held, is_call, holds_pair}
 use Rattle.calls.proofs.Calls.{call_named}
-use Rattle.first.specs.declared.Found.{Found}
-use Rattle.first.specs.declared.Found.TheVariants.{Nothing, At}
 use Rattle.first.specs.First.{place}
 use Rattle.first.proofs.First.{placed, unplaced}
 use Rattle.table.specs.declared.Table.{Table}
@@ -40,14 +39,14 @@ sound_state last network q (by_timer k d h cause x) = rw (x, le-leb d _ h, cause
 
 -- one slot alone passes: the search finds it
 only_place : (q : Slot → Bool) (ss : List Slot) (i : ℕ) → i < length ss → q (get_or ss i no_slot) ≡ true
-    → ((j : ℕ) → q (get_or ss j no_slot) ≡ true → j ≡ i) → (x : Found) → place q ss ≡ x → is_at i x ≡ true
-only_place q ss i h e once Nothing found = clash (some_at q no_slot ss i h e) (unplaced q no_slot ss found).some
-only_place q ss i h e once (At j) found = eq-eqb j i (once j (placed q no_slot ss j found).passes)
+    → ((j : ℕ) → q (get_or ss j no_slot) ≡ true → j ≡ i) → (x : Option ℕ) → place q ss ≡ x → is_at i x ≡ true
+only_place q ss i h e once None found = clash (some_at q no_slot ss i h e) (unplaced q no_slot ss found).some
+only_place q ss i h e once (Some j) found = eq-eqb j i (once j (placed q no_slot ss j found).passes)
 
 module _ (t : Table) (s : Sound t) (i : ℕ) (c : Call) (q : State) (h : HasCall t i c q) where
-  on_pair_once : (j : ℕ) (x : Hold) → (slot_at t j).hold ≡ x → pair_held c.vpci c.vci x ≡ true → j ≡ i
+  on_pair_once : (j : ℕ) (x : Hold) → (slot_at t j).hold ≡ x → pair_held c.pair.vpci c.pair.vci x ≡ true → j ≡ i
   on_pair_once j Empty g e = clash e refl
-  on_pair_once j (Live d r) g e = let o = on_pair_lem c.vpci c.vci d r e in s.pair_once j i d c r q g h o.vpci o.vci
+  on_pair_once j (Live d r) g e = let o = on_pair_lem c.pair.vpci c.pair.vci d r e in s.pair_once j i d c r q g h o.vpci o.vci
 
   named_once : (j : ℕ) (x : Hold) → (slot_at t j).hold ≡ x → refers_to c.network c.reference x ≡ true → j ≡ i
   named_once j Empty g e = clash e refl
@@ -57,9 +56,9 @@ module _ (t : Table) (s : Sound t) (i : ℕ) (c : Call) (q : State) (h : HasCall
   call_kept_lem =
       let k = s.calls_sound i c q h in
       let within = live_within t i c q h in
-      let pair : holds_pair c.vpci c.vci (slot_at t i) ≡ true = holds_at t i c.vpci c.vci c q h (record { vpci = refl; vci = refl }) in
+      let pair : holds_pair c.pair.vpci c.pair.vci (slot_at t i) ≡ true = holds_at t i c.pair.vpci c.pair.vci c q h (record { vpci = refl; vci = refl }) in
       let name : is_call c.network c.reference (slot_at t i) ≡ true = rw (h, beq_same c.network, eq-eqb c.reference c.reference refl) in
-      let first-pair = only_place (holds_pair c.vpci c.vci) t.slots.all i within pair (λ j e. on_pair_once j _ refl e) _ refl in
+      let first-pair = only_place (holds_pair c.pair.vpci c.pair.vci) t.slots.all i within pair (λ j e. on_pair_once j _ refl e) _ refl in
       let first-name = only_place (is_call c.network c.reference) t.slots.all i within name (λ j e. named_once j _ refl e) _ refl in
       rw (ne_eqb c.reference 0 k.not_global, first-pair, first-name, k.pair_permitted) (sound_state t.last c.network q k.state_sound)
 

@@ -17,7 +17,7 @@ use Rattle.channels.proofs.Cases.{by_test, both}
 use Rattle.provisioning.specs.Provisioning.{range_at, single_at, entry_at, range_ok, fits, ranges_ok, pairs_ok, numbered}
 use Rattle.provisioning.proofs.Below.{below_at}
 use Rattle.provisioning.proofs.Accepted.{Limits, limits, ranges_lists}
-use Rattle.fields.specs.Fields.{two, range_octets, entry_octets}
+use Rattle.fields.specs.Fields.{two, range_octets, channel_octets}
 use Rattle.saved.specs.Form.{joined}
 
 -- a list numbered from one further
@@ -75,11 +75,11 @@ module _ (a b : ℕ) (s : List ℕ) where
       let q : (k + 1) * 2 + 1 ≡ suc (suc (k * 2 + 1)) = omega arith in
       rw (second k, q, p)
 
-no_entries : (k n : ℕ) → joined entry_octets (numbered (entry_at []) k n) ≡ []
+no_entries : (k n : ℕ) → joined channel_octets (numbered (entry_at []) k n) ≡ []
 no_entries k zero = refl
 no_entries k (suc n) = rw (le-ltb k 0 (omega arith)) (no_entries (k + 1) n)
 
-pub pairs_octets : (s : List ℕ) (n : ℕ) → length s % 2 ≡ 0 → length s / 2 ≤ n → joined entry_octets (numbered (entry_at s) 0 n) ≡ joined two s
+pub pairs_octets : (s : List ℕ) (n : ℕ) → length s % 2 ≡ 0 → length s / 2 ≤ n → joined channel_octets (numbered (entry_at s) 0 n) ≡ joined two s
 pairs_octets [] n whole few = no_entries 0 n
 pairs_octets (a ∷ []) n whole few = absurd (omega arith)
 pairs_octets (a ∷ b ∷ s) n whole few =

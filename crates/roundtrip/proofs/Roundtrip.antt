@@ -17,7 +17,7 @@ use Rattle.octets.specs.Octets.{equal}
 use Rattle.octets.proofs.Equal.{same_equal}
 use Rattle.traffic.specs.Traffic.{member}
 use Rattle.replies.specs.Reply.{reply_room}
-use Rattle.channels.specs.Some.{some_of}
+use Rattle.std.specs.List.{list_any}
 use Rattle.channels.specs.Channels.{permitted}
 use Rattle.channels.specs.declared.Pool.{Pool}
 use Rattle.channels.proofs.Cases.{by_test, clash}
@@ -110,8 +110,8 @@ module _ (t : Table) (s : Sound t) where
     marks = pairs_fit t.out.pairs s.marks_tidy marked-fits;
   }
 
-  held_not : (p v : ℕ) → (Holds t p v → ⊥) → some_of (holds_pair p v) t.slots.all ≡ false
-  held_not p v not_held = by_test (some_of (holds_pair p v) t.slots.all) (λ y. absurd (not_held (some_held t p v y))) (λ n. n)
+  held_not : (p v : ℕ) → (Holds t p v → ⊥) → list_any (holds_pair p v) t.slots.all ≡ false
+  held_not p v not_held = by_test (list_any (holds_pair p v) t.slots.all) (λ y. absurd (not_held (some_held t p v y))) (λ n. n)
 
   out_by_mark : (p v : ℕ) → in_pairs t.out.pairs p v ≡ true → IsOut t p v
   out_by_mark p v h = rw h (or-true t.out.all)
@@ -133,14 +133,14 @@ module _ (t : Table) (s : Sound t) where
       let first = number_in t.doubts 0 (omega (arith, long, some)) in
       absurd (s.out_not_doubtful _ _ (rw all) first))
 
-  no_call : t.out.all ≡ true → some_of is_live t.slots.all ≡ false
+  no_call : t.out.all ≡ true → list_any is_live t.slots.all ≡ false
   no_call all =
       some_none is_live no_slot t.slots.all (λ i h. empty i (slot_at t i).hold refl)
     where
       empty : (i : ℕ) (x : Hold) → (slot_at t i).hold ≡ x → not (empty_hold x) ≡ false
       empty i Empty e = refl
       empty i (Live c q) e =
-          absurd (s.out_not_held c.vpci c.vci (rw all)
+          absurd (s.out_not_held c.pair.vpci c.pair.vci (rw all)
           (record { slot = i; call = c; state = q; live = e; pair = record { vpci = refl; vci = refl } }))
 
   sound_marks_kept : marks_kept t ≡ true

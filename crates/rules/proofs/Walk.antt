@@ -2,6 +2,7 @@
 --   spot_nothing, spot_at        what a spot says of the slot that a search found
 --   ascending_here, ascending_not_here, ascending_end     pairs that ascend; what is left of the list is `drop i (listed ps)`
 -- Assumes nothing.
+use Rattle.std.specs.Prelude.{Option, Some, None}
 use Prim.Native.Nat.{ℕ, ◌+◌, ◌≤◌, ◌<◌}
 use mathlib.Core.Path.{◌≡◌, refl, sym, ap, ◌∙◌}
 use mathlib.Core.Bool.{true, false}
@@ -15,19 +16,16 @@ use Rattle.pairs.specs.declared.Pairs.{Pairs}
 use Rattle.pairs.specs.Pairs.{listed, ascending}
 use Rattle.pairs.proofs.Places.{Span, listed_next}
 use Rattle.calls.specs.declared.Slot.{Slot}
-use Rattle.first.specs.declared.Found.{Found}
-use Rattle.first.specs.declared.Found.TheVariants.{Nothing as NoPlace, At as PlaceAt}
-use Rattle.slots.specs.declared.Spot.TheVariants.{Nothing, At}
 use Rattle.slots.specs.Slots.{spot}
 use Rattle.rules.specs.Rules.{is_at}
 
-pub spot_nothing : (ss : List Slot) (f : Found) (slot : ℕ) → spot ss f ≡ Nothing → is_at slot f ≡ false
-spot_nothing ss NoPlace slot e = refl
-spot_nothing ss (PlaceAt i) slot e = let z : ◌≡◌ {A = ℕ} 0 1 = cc in absurd (omega arith)
+pub spot_nothing : (ss : List Slot) (f : Option ℕ) (slot : ℕ) → spot ss f ≡ None → is_at slot f ≡ false
+spot_nothing ss None slot e = refl
+spot_nothing ss (Some i) slot e = let z : ◌≡◌ {A = ℕ} 0 1 = cc in absurd (omega arith)
 
-pub spot_at : (ss : List Slot) (f : Found) (slot i : ℕ) (s : Slot) → spot ss f ≡ At i s → is_at slot f ≡ eqb i slot
-spot_at ss NoPlace slot i s e = let z : ◌≡◌ {A = ℕ} 0 1 = cc in absurd (omega arith)
-spot_at ss (PlaceAt k) slot i s e = let z : k ≡ i = cc in ap (λ (n : ℕ). eqb n slot) z
+pub spot_at : (ss : List Slot) (f : Option ℕ) (slot i : ℕ) (s : Slot) → spot ss f ≡ Some i s → is_at slot f ≡ eqb i slot
+spot_at ss None slot i s e = let z : ◌≡◌ {A = ℕ} 0 1 = cc in absurd (omega arith)
+spot_at ss (Some k) slot i s e = let z : k ≡ i = cc in ap (λ (n : ℕ). eqb n slot) z
 
 module _ (ps : Pairs) (n i : ℕ) (s : Span ps n) where
   two-left : i + 1 < n → drop i (listed ps) ≡ get_or ps.numbers i 0 ∷ get_or ps.numbers (i + 1) 0 ∷ drop (i + 1 + 1) (listed ps)

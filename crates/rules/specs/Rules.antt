@@ -6,12 +6,12 @@
 --   named_kept, wait_kept, request_kept     our RESTART
 --   table_kept                 all of them, over the number of slots
 -- Assumes nothing.
-use Rattle.std.specs.Prelude.{ℕ, ◌+◌, ◌/◌, ◌%◌, Bool, true, false, cond, not, ◌&&◌, ◌||◌, eqb, leb}
+use Rattle.std.specs.Prelude.{ℕ, ◌+◌, ◌/◌, ◌%◌, Bool, true, false, cond, not, ◌&&◌, ◌||◌, eqb, leb, Option, Some, None}
 use Rattle.traffic.specs.Traffic.{member}
-use Rattle.channels.specs.Some.{some_of}
+use Rattle.std.specs.List.{list_any}
 use Rattle.channels.specs.Channels.{permitted}
 use Rattle.channels.specs.declared.Named.{Named}
-use Rattle.channels.specs.declared.Named.TheVariants.{All, Pair}
+use Rattle.channels.specs.declared.Named.TheVariants.{All, One}
 use Rattle.channels.specs.declared.Pool.{Pool}
 use Rattle.pairs.specs.declared.Pairs.{Pairs}
 use Rattle.pairs.specs.Pairs.{listed, in_pairs, ascending}
@@ -24,8 +24,6 @@ use Rattle.calls.specs.declared.Hold.{Hold}
 use Rattle.calls.specs.declared.Hold.TheVariants.{Empty, Live}
 use Rattle.calls.specs.Calls.{is_live, is_call, holds_pair}
 use Rattle.calls.specs.Timers.{t303, t308, t310}
-use Rattle.first.specs.declared.Found.{Found}
-use Rattle.first.specs.declared.Found.TheVariants.{Nothing, At}
 use Rattle.first.specs.First.{place}
 use Rattle.slots.specs.Slots.{hold_at}
 use Rattle.service.specs.declared.GlobalState.{GlobalState}
@@ -46,17 +44,17 @@ state_kept last network (N9 d) = network && leb d (last + t310)
 state_kept last network N10 = true
 state_kept last network (N12 k d) = leb d (last + t308) && cause_kept network k
 
-abbrev pub is_at : ℕ → Found → Bool
-is_at slot Nothing = false
-is_at slot (At i) = eqb i slot
+abbrev pub is_at : ℕ → Option ℕ → Bool
+is_at slot None = false
+is_at slot (Some i) = eqb i slot
 
 -- "reference 0, two calls on one pair or flagged reference, a pair not permitted": no slot before this one has its pair or reference
 abbrev pub call_kept : Table → ℕ → Call → State → Bool
 call_kept t slot c q =
     not (eqb c.reference 0)
-    && (is_at slot (place (holds_pair c.vpci c.vci) t.slots.all)
+    && (is_at slot (place (holds_pair c.pair.vpci c.pair.vci) t.slots.all)
     && (is_at slot (place (is_call c.network c.reference) t.slots.all)
-    && (permitted t.pool c.vpci c.vci && state_kept t.last c.network q)))
+    && (permitted t.pool c.pair.vpci c.pair.vci && state_kept t.last c.network q)))
 
 abbrev pub hold_kept : Table → ℕ → Hold → Bool
 hold_kept t slot Empty = true
@@ -70,18 +68,18 @@ slot_kept t slot = hold_kept t slot (hold_at t.slots.all slot)
 abbrev pub is_lost : Table → Pairs → ℕ → Bool
 is_lost t others n =
     not (permitted t.pool (n / 65536) (n % 65536))
-    || (some_of (holds_pair (n / 65536) (n % 65536)) t.slots.all || in_pairs others (n / 65536) (n % 65536))
+    || (list_any (holds_pair (n / 65536) (n % 65536)) t.slots.all || in_pairs others (n / 65536) (n % 65536))
 
 -- "pairs ascending"
 abbrev pub pairs_kept : Table → Pairs → Pairs → Bool
-pairs_kept t others ps = ascending (listed ps) && not (some_of (is_lost t others) (listed ps))
+pairs_kept t others ps = ascending (listed ps) && not (list_any (is_lost t others) (listed ps))
 
 abbrev pub doubts_kept : Table → Bool
 doubts_kept t = pairs_kept t t.out.pairs t.doubts
 
 -- where all pairs are out of service, none is in doubt and none is held
 abbrev pub all_kept : Table → Bool
-all_kept t = cond t.out.all (eqb t.doubts.count 0 && not (some_of is_live t.slots.all)) true
+all_kept t = cond t.out.all (eqb t.doubts.count 0 && not (list_any is_live t.slots.all)) true
 
 abbrev pub marks_kept : Table → Bool
 marks_kept t = pairs_kept t t.doubts t.out.pairs && all_kept t
@@ -90,7 +88,7 @@ marks_kept t = pairs_kept t t.doubts t.out.pairs && all_kept t
 -- the last reading than its timer is long"
 abbrev pub named_kept : Pool → Named → Bool
 named_kept pool All = true
-named_kept pool (Pair p v) = permitted pool p v
+named_kept pool (One pv) = permitted pool pv.vpci pv.vci
 
 abbrev pub wait_kept : ℕ → Pool → GlobalState → Bool
 wait_kept last pool Null = true

@@ -2,6 +2,7 @@
 --   Acts           the view: what a change does, nine ways
 --   does_acts      what every accepted event does, in it
 -- Assumes nothing.
+use Rattle.std.specs.Prelude.{Some}
 use Prim.Native.Nat.{ℕ}
 use mathlib.Core.Path.{◌≡◌, ap}
 use mathlib.Core.Logic.{◌≢◌}
@@ -14,7 +15,6 @@ use Rattle.calls.specs.declared.State.{State}
 use Rattle.calls.specs.declared.State.TheVariants.{N6, N9, N10, N12}
 use Rattle.calls.specs.declared.Call.{Call}
 use Rattle.calls.specs.Calls.{state_number, no_slot, live_slot, is_empty}
-use Rattle.first.specs.declared.Found.TheVariants.{At}
 use Rattle.first.specs.First.{place}
 use Rattle.header.specs.declared.Header.{Header}
 use Rattle.verdicts.specs.declared.Verdict.{Verdict}
@@ -36,11 +36,11 @@ use Rattle.safety.specs.Flags.{NoNotice}
 -- a call is asked, goes to another state, is answered, is gone; calls on the pairs of a RESTART are gone; our RESTART is sent, pairs are put back
 pub data Acts (t : Table) (e : Event) : Change → Type 0 where
   keeps : Acts t e Keep
-  asks : (i : ℕ) (c : Call) (q : State) → place is_empty t.slots.all ≡ At i → ¬ NoNotice e → Acts t e (Put i (live_slot c q) 1)
+  asks : (i : ℕ) (c : Call) (q : State) → place is_empty t.slots.all ≡ Some i → ¬ NoNotice e → Acts t e (Put i (live_slot c q) 1)
   moves : (i : ℕ) (c : Call) (q r : State) → HasCall t i c q → (¬ NoNotice e → r ≢ N10) → Acts t e (Put i (live_slot c r) 0)
   answers : (i : ℕ) (c : Call) (q : State) → HasCall t i c q → q ≢ N10 → ¬ NoNotice e → Acts t e (Put i (live_slot c N10) 2)
   ends : (i : ℕ) (c : Call) (q : State) → HasCall t i c q → ¬ NoNotice e → Acts t e (Put i no_slot 3)
-  loses : (i : ℕ) (c : Call) (q : State) → HasCall t i c q → ¬ NoNotice e → Acts t e (Doubt i c.vpci c.vci)
+  loses : (i : ℕ) (c : Call) (q : State) → HasCall t i c q → ¬ NoNotice e → Acts t e (Doubt i c.pair.vpci c.pair.vci)
   restarts : (which : Named) (why : Ending) → ¬ NoNotice e → Acts t e (Restart which why)
   requests : (which : Named) (second : Bool) (d : ℕ) → Acts t e (Request which second d)
   puts_back : Acts t e PutBack

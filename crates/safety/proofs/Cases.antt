@@ -3,10 +3,10 @@
 --   either, one_passes one of two tests passes; the second does
 --   one_place          a place that is found is one place
 -- Assumes nothing.
+use Rattle.std.specs.Prelude.{Some}
 use Prim.Native.Nat.{ℕ}
 use mathlib.Core.Path.{◌≡◌, refl}
 use mathlib.Core.Bool.{Bool, true, false, ◌||◌, beq}
-use Rattle.first.specs.declared.Found.TheVariants.{At}
 
 pub beq_same : (b : Bool) → beq b b ≡ true
 beq_same true = refl
@@ -20,5 +20,5 @@ pub one_passes : (a b : Bool) → b ≡ true → (a || b) ≡ true
 one_passes true b e = refl
 one_passes false b e = e
 
-pub one_place : (i j : ℕ) → At i ≡ At j → i ≡ j
+pub one_place : (i j : ℕ) → Some i ≡ Some j → i ≡ j
 one_place i j h = cc

@@ -138,7 +138,7 @@ global_not_45 state h = verdict.by_cond Not45 (eqb h.kind 0x7D) _ _ refl (verdic
 
 pub own_not_45 : (which : Named) → Not45 (restart_of which)
 own_not_45 named.All = refl
-own_not_45 (named.Pair p v) = refl
+own_not_45 (named.One pv) = refl
 
 -- A verdict on a live call.
 

@@ -7,6 +7,8 @@
 --   does_change         what every event leaves
 --   accepted_reading    an accepted event's reading is neither too large nor too early
 -- Assumes nothing.
+use Rattle.channels.specs.Channels.{pair}
+use Rattle.std.specs.Prelude.{Some, None}
 use Prim.Native.Nat.{ℕ, ◌+◌, ◌≤◌}
 use mathlib.Core.Path.{◌≡◌, refl, sym, ap, ◌∙◌}
 use mathlib.Core.Logic.{⊎_elim, ◌≢◌}
@@ -16,8 +18,7 @@ use native.Mathlib.Omega.{arith}
 use lib.Dec.{eqb, ltb}
 use lib.ListN.{length, get_or, set, length-set, length-map}
 use borrow.Author.Tests.{eqb-false, ltb-false, ltb-true}
-use Rattle.channels.specs.Some.{some_of}
-use Rattle.channels.specs.declared.Channel.TheVariants.{Pair}
+use Rattle.std.specs.List.{list_any}
 use Rattle.channels.proofs.Cases.{by_test}
 use Rattle.calls.specs.declared.Clearing.{Clearing}
 use Rattle.calls.specs.declared.State.{State}
@@ -27,13 +28,11 @@ use Rattle.calls.specs.declared.Hold.TheVariants.{Live}
 use Rattle.calls.specs.declared.Slot.{Slot}
 use Rattle.calls.specs.Calls.{no_slot, live_slot, is_empty, is_call, is_named, emptied}
 use Rattle.calls.specs.Timers.{largest_reading, t303, t308, t310}
-use Rattle.first.specs.declared.Found.TheVariants.{At}
 use Rattle.first.specs.First.{place}
 use Rattle.first.proofs.First.{unplaced}
 use Rattle.slots.specs.Slots.{unused_reference}
 use Rattle.slots.proofs.Unused.{unused_found, unused_is_unused}
 use Rattle.header.specs.declared.Header.{Header}
-use Rattle.header.specs.declared.Head.TheVariants.{Ignored, Is}
 use Rattle.header.specs.Header.{header_in, head_of}
 use Rattle.verdicts.specs.declared.Verdict.{Verdict}
 use Rattle.effects.specs.declared.Effect.{Effect}
@@ -62,15 +61,15 @@ Source t (restart label reading room target) r = ⊥
 Source t (put_marks_back label reading room) r = ⊥
 
 pub record NewCall (t : Table) (e : Event) (c : Call) (q : State) : Type 0 where
-  pub pair : free_pair t ≡ Pair c.vpci c.vci
-  pub unnamed : some_of (is_call c.network c.reference) t.slots.all ≡ false
+  pub pair : free_pair t ≡ Some c.pair
+  pub unnamed : list_any (is_call c.network c.reference) t.slots.all ≡ false
   pub not_global : c.reference ≢ 0
   pub state : StateSound (reading_of e) c.network q
   pub source : Source t e c.reference
 
 pub data Comes (t : Table) (e : Event) (j : ℕ) (c : Call) (r : State) : Type 0 where
   old : (q : State) → HasCall t j c q → (StateSound t.last c.network q → StateSound (reading_of e) c.network r) → Comes t e j c r
-  new : NewCall t e c r → place is_empty t.slots.all ≡ At j → Comes t e j c r
+  new : NewCall t e c r → place is_empty t.slots.all ≡ Some j → Comes t e j c r
 
 pub record Change (t : Table) (e : Event) (ss : List Slot) : Type 0 where
   pub size : length ss ≡ length t.slots.all
@@ -139,7 +138,7 @@ module _ (t : Table) (e : Event) (order : t.last ≤ reading_of e) where
   gone_change : (i : ℕ) → Change t e (set t.slots.all i no_slot)
   gone_change i = set_change i no_slot (λ d s g. not_live d s g)
 
-  new_change : (i : ℕ) (c : Call) (r : State) → place is_empty t.slots.all ≡ At i → NewCall t e c r → Change t e (set t.slots.all i (live_slot c r))
+  new_change : (i : ℕ) (c : Call) (r : State) → place is_empty t.slots.all ≡ Some i → NewCall t e c r → Change t e (set t.slots.all i (live_slot c r))
   new_change i c r h n =
       let o : Comes t e i c r = new n h in
       set_change i (live_slot c r) (λ d s g. let same = live_same c d r s g in rw (same.0, same.1) at o)
@@ -168,7 +167,7 @@ module _ (t : Table) (e : Event) (order : t.last ≤ reading_of e) where
 
 -- New calls.
 
-pub head_is : (m : List ℕ) (h : Header) → head_of m ≡ Is h → header_in m ≡ h
+pub head_is : (m : List ℕ) (h : Header) → head_of m ≡ Some h → header_in m ≡ h
 head_is m h e =
     by_test (ltb (length m) 9)
     (λ a. not_head h (rw a at e))
@@ -178,16 +177,16 @@ head_is m h e =
     (λ c. not_head h (rw (a, b, c) at e)))
     (λ b. not_head h (rw (a, b) at e)))
   where
-    not_head : {P : Type 0} (h : Header) → Ignored ≡ Is h → P
+    not_head : {P : Type 0} (h : Header) → None ≡ Some h → P
     not_head h e = let z : ◌≡◌ {A = ℕ} 0 1 = cc in absurd (omega arith)
 
-    is_header : (g h : Header) → Is g ≡ Is h → g ≡ h
+    is_header : (g h : Header) → Some g ≡ Some h → g ≡ h
     is_header g h e = cc
 
 setup_source : (t : Table) (e : Event) (m : List ℕ) (h : Header) → view.IsMessage m h e → Source t e h.reference
 setup_source t e m h (view.heard label reading room head) = ap (λ (g : Header). g.reference) (sym (head_is m h head))
 
-user_new : (t : Table) (e : Event) (m : List ℕ) (h : Header) (p v : ℕ) → view.IsSetup t m h e → free_pair t ≡ Pair p v → NewCall t e (user_call h.reference p v) N3
+user_new : (t : Table) (e : Event) (m : List ℕ) (h : Header) (p v : ℕ) → view.IsSetup t m h e → free_pair t ≡ Some (pair p v) → NewCall t e (user_call h.reference p v) N3
 user_new t e m h p v s free = record {
   pair = free;
   unnamed = rw s.user at (unplaced (is_call h.flag h.reference) no_slot t.slots.all s.unnamed).some;
@@ -199,7 +198,7 @@ user_new t e m h p v s free = record {
 offer_source : (t : Table) (e : Event) → view.IsOffer e → Source t e (unused_reference t.slots.all)
 offer_source t e (view.is_offer label reading room body) = refl
 
-network_new : (t : Table) (e : Event) (p v : ℕ) → view.IsOffer e → free_pair t ≡ Pair p v
+network_new : (t : Table) (e : Event) (p v : ℕ) → view.IsOffer e → free_pair t ≡ Some (pair p v)
     → NewCall t e (network_call (unused_reference t.slots.all) p v) (N6 (reading_of e + t303))
 network_new t e p v is free =
     let u = unused_found (length t.slots.all) 1 t.slots.all in

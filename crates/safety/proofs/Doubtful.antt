@@ -6,6 +6,7 @@
 --   doubt_origin        a pair in doubt afterwards was in doubt or held
 --   doubts_sound        afterwards the doubts are as they must be
 -- Assumes nothing.
+use Rattle.std.specs.Prelude.{Some, None}
 use Prim.Native.Nat.{ℕ, ◌+◌}
 use mathlib.Core.Path.{◌≡◌, refl, sym, ap, ◌∙◌}
 use mathlib.Core.Logic.{◌⊎◌, inl, inr, ◌≢◌}
@@ -15,11 +16,10 @@ use lib.Dec.{eqb, ltb}
 use lib.ListN.{get_or, set}
 use lib.Seq.{get_or-set_same, get_or-set_other}
 use borrow.Author.Tests.{eqb-true, not-true}
-use Rattle.channels.specs.declared.Channel.TheVariants as channel
 use Rattle.channels.specs.declared.Named.{Named}
 use Rattle.channels.specs.declared.Named.TheVariants as named
 use Rattle.channels.specs.declared.Pool.{Pool}
-use Rattle.channels.specs.Channels.{permitted}
+use Rattle.channels.specs.Channels.{pair, permitted}
 use Rattle.channels.proofs.Cases.{by_test, clash, both}
 use Rattle.pairs.specs.Pairs.{in_pairs, names, unless_named, Tidy}
 use Rattle.pairs.proofs.Laws.{with_in, with_tidy, unless_in, unless_tidy}
@@ -56,13 +56,13 @@ use Rattle.safety.proofs.Changes.{Comes, old, new, Change}
 -- "a pair not permitted" is not named
 abbrev pub Nameable : Pool → Named → Type 0
 Nameable pool named.All = Unit {0}
-Nameable pool (named.Pair p v) = permitted pool p v ≡ true
+Nameable pool (named.One pv) = permitted pool pv.vpci pv.vci ≡ true
 
 pub data Touched (t : Table) (reading : ℕ) : declared.Change → Type 0 where
   keeps : Touched t reading Keep
   puts : (i : ℕ) (s : Slot) (notice : ℕ) → Touched t reading (Put i s notice)
   -- the pair of a call that goes begins to be in doubt
-  begins : (i : ℕ) (c : Call) (q : State) → HasCall t i c q → no_room t ≡ false → Touched t reading (Doubt i c.vpci c.vci)
+  begins : (i : ℕ) (c : Call) (q : State) → HasCall t i c q → no_room t ≡ false → Touched t reading (Doubt i c.pair.vpci c.pair.vci)
   -- doubts end: by a user's RESTART, by the acknowledge of ours, by its second expiry, which marks its pairs
   ends : (which : Named) → Touched t reading (Restart which User)
   acknowledged : (which : Named) → Touched t reading (Restart which Acknowledged)
@@ -128,7 +128,7 @@ module _ (t : Table) (e : Event) (s : Sound t) where
     abbrev u : Table
     u = table_after t (reading_of e) x
 
-    pub still_not_held : (p v : ℕ) → (Holds t p v → ⊥) → free_pair t ≢ channel.Pair p v → Holds u p v → ⊥
+    pub still_not_held : (p v : ℕ) → (Holds t p v → ⊥) → free_pair t ≢ Some (pair p v) → Holds u p v → ⊥
     still_not_held p v none taken h = by_origin (change.comes h.slot h.call h.state h.live)
       where
         by_origin : Comes t e h.slot h.call h.state → ⊥
@@ -156,7 +156,7 @@ module _ (t : Table) (e : Event) (s : Sound t) where
   -- the pair of a call that goes
   module _ (i : ℕ) (c : Call) (q : State) (live : HasCall t i c q) (room : no_room t ≡ false) where
     abbrev w : Table
-    w = table_after t (reading_of e) (Doubt i c.vpci c.vci)
+    w = table_after t (reading_of e) (Doubt i c.pair.vpci c.pair.vci)
 
     -- a call of the table afterwards is one of the table before, in another slot
     held-before : (p v : ℕ) → Holds w p v → (h : Holds t p v) × (h.slot ≢ i)
@@ -167,25 +167,25 @@ module _ (t : Table) (e : Event) (s : Sound t) where
         let stays = get_or-set_other t.slots.all i h.slot no_slot no_slot other in
         (record { slot = h.slot; call = h.call; state = h.state; live = ap (λ (x : Slot). x.hold) (sym stays) ∙ h.live; pair = h.pair }, other)
 
-    not_yet : in_pairs t.doubts c.vpci c.vci ≡ false
+    not_yet : in_pairs t.doubts c.pair.vpci c.pair.vci ≡ false
     not_yet =
-        by_test (in_pairs t.doubts c.vpci c.vci)
-        (λ y. absurd (s.doubt_not_held c.vpci c.vci y (record { slot = i; call = c; state = q; live = live; pair = record { vpci = refl; vci = refl } })))
+        by_test (in_pairs t.doubts c.pair.vpci c.pair.vci)
+        (λ y. absurd (s.doubt_not_held c.pair.vpci c.pair.vci y (record { slot = i; call = c; state = q; live = live; pair = record { vpci = refl; vci = refl } })))
         (λ n. n)
 
-    in_or_old : {P : Type 0} (p v : ℕ) → InDoubt w p v → ((c.vpci ≡ p) × (c.vci ≡ v) → P) → (InDoubt t p v → P) → P
+    in_or_old : {P : Type 0} (p v : ℕ) → InDoubt w p v → ((c.pair.vpci ≡ p) × (c.pair.vci ≡ v) → P) → (InDoubt t p v → P) → P
     in_or_old p v h f g =
         let k = s.calls_sound i c q live in
-        either (eqb c.vpci p && eqb c.vci v) (in_pairs t.doubts p v)
-        (sym (with_in t.doubts c.vpci c.vci p v room (omega (arith, k.vci_high))) ∙ h)
-        (λ y. let a = both (eqb c.vpci p) (eqb c.vci v) y in f (eqb-true _ _ a.0, eqb-true _ _ a.1))
+        either (eqb c.pair.vpci p && eqb c.pair.vci v) (in_pairs t.doubts p v)
+        (sym (with_in t.doubts c.pair.vpci c.pair.vci p v room (omega (arith, k.vci_high))) ∙ h)
+        (λ y. let a = both (eqb c.pair.vpci p) (eqb c.pair.vci v) y in f (eqb-true _ _ a.0, eqb-true _ _ a.1))
         g
 
     begun_sound : DoubtsSound w
     begun_sound =
         let k = s.calls_sound i c q live in
         record {
-          in_order = with_tidy t.doubts c.vpci c.vci s.doubts_tidy not_yet (omega (arith, k.vci_high));
+          in_order = with_tidy t.doubts c.pair.vpci c.pair.vci s.doubts_tidy not_yet (omega (arith, k.vci_high));
           permits = λ p v h. in_or_old p v h (λ same. rw (← same.0, ← same.1) k.pair_permitted) (s.doubt_permitted p v);
           not_held = λ p v h b.
               let a = held-before p v b in

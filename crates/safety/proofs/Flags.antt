@@ -6,6 +6,7 @@
 --   gone_exact                             calls on the pairs of a RESTART are gone
 --   flags_exact
 -- Assumes nothing.
+use Rattle.channels.specs.Channels.{pair}
 use Prim.Native.Nat.{ℕ, zero, suc, ◌≤◌, ◌<◌}
 use mathlib.Core.Path.{◌≡◌, refl, sym, ap, ◌∙◌}
 use mathlib.Core.Logic.{◌≢◌}
@@ -16,7 +17,7 @@ use lib.Dec.{eqb}
 use lib.ListN.{length, get_or, set, replicate, length-replicate, length-set, length-map}
 use lib.Seq.{get_or-set_same, get_or-set_other}
 use borrow.Author.Tests.{eqb-true, eqb-false}
-use Rattle.channels.specs.Some.{some_of}
+use Rattle.std.specs.List.{list_any}
 use Rattle.channels.specs.declared.Named.{Named}
 use Rattle.channels.specs.declared.Named.TheVariants as named
 use Rattle.channels.proofs.Cases.{by_test, clash}
@@ -200,8 +201,8 @@ named_live which s = hold_live which s.hold
     hold_live : (which : Named) (h : Hold) → is_named which (record { hold = h }) ≡ true → (c : Call) × ((q : State) × (h ≡ Live c q))
     hold_live named.All Empty e = clash e refl
     hold_live named.All (Live c q) e = (c, (q, refl))
-    hold_live (named.Pair p v) Empty e = clash e refl
-    hold_live (named.Pair p v) (Live c q) e = (c, (q, refl))
+    hold_live (named.One (pair p v)) Empty e = clash e refl
+    hold_live (named.One (pair p v)) (Live c q) e = (c, (q, refl))
 
 module _ (t : Table) (whole : HasSlots t) (e : Event) (reading : ℕ) (which : Named) (why : Ending) where
   abbrev after : Table
@@ -242,7 +243,7 @@ module _ (t : Table) (whole : HasSlots t) (e : Event) (reading : ℕ) (which : N
   told : (i : ℕ) → CallGone t after i → get_or on i false ≡ true
   told i m = by_test (get_or on i false) (λ y. y) (λ n. not_gone t after i (off_stays i n) m)
 
-  unset : some_of is_set on ≡ false → (i : ℕ) → get_or on i false ≡ false
+  unset : list_any is_set on ≡ false → (i : ℕ) → get_or on i false ≡ false
   unset none i = by_test (get_or on i false) (λ y. clash (some_at is_set false on i (passes_within is_set false on i refl y) y) none) (λ n. n)
 
   -- no call is asked, and none is answered
@@ -260,7 +261,7 @@ module _ (t : Table) (whole : HasSlots t) (e : Event) (reading : ℕ) (which : N
     unnamed = unnamed;
   }
 
-  some_gone : some_of is_set on ≡ true → NamesExactly t after 3 (record { on = on })
+  some_gone : list_any is_set on ≡ true → NamesExactly t after 3 (record { on = on })
   some_gone some = record {
     thirty_two = sized;
     most = omega arith;
@@ -274,7 +275,7 @@ module _ (t : Table) (whole : HasSlots t) (e : Event) (reading : ℕ) (which : N
 
   gone_exact : ¬ NoNotice e → Exactly t after e (gone_notice (record { on = on })) (record { on = on })
   gone_exact own =
-      by_test (some_of is_set on)
+      by_test (list_any is_set on)
       (λ y. rw y (some_gone y, gone_tells 3 (λ i m. refl) (λ none. absurd (own none))))
       (λ n. rw n (none_named t after (record { on = on }) sized (unset n), gone_tells 0 (λ i m. clash (told i m) (unset n i)) (λ none. refl)))
 

@@ -5,6 +5,7 @@
 --   get_d_map                   an element after all are changed
 --   get_or-replicate_default     an element of so many times the default
 -- Assumes nothing.
+use Rattle.std.specs.Prelude.{Option, Some, None}
 use Prim.Native.Nat.{ℕ, zero, suc, ◌<◌}
 use mathlib.Core.Path.{◌≡◌, refl, sym, ap}
 use mathlib.Core.Logic.{◌⊎◌, inl, inr, ⊎_elim}
@@ -12,15 +13,13 @@ use mathlib.Core.Bool.{Bool, true, false}
 use mathlib.Core.List.{List, [], ◌∷◌, map}
 use native.Mathlib.Omega.{arith}
 use lib.ListN.{length, get_or, set, replicate}
-use Rattle.channels.specs.Some.{some_of}
+use Rattle.std.specs.List.{list_any}
 use Rattle.channels.proofs.Cases.{by_test, clash}
-use Rattle.first.specs.declared.Found.{Found}
-use Rattle.first.specs.declared.Found.TheVariants.{Nothing, At}
 use Rattle.first.specs.First.{place}
 use Rattle.first.proofs.First.{unplaced}
 
 module _ {A : Type 0} (q : A → Bool) (d : A) where
-  pub some_found : (xs : List A) → some_of q xs ≡ true → (i : ℕ) × ((i < length xs) × (q (get_or xs i d) ≡ true))
+  pub some_found : (xs : List A) → list_any q xs ≡ true → (i : ℕ) × ((i < length xs) × (q (get_or xs i d) ≡ true))
   some_found [] e = clash e refl
   some_found (x ∷ xs) e =
       by_test (q x)
@@ -32,9 +31,9 @@ module _ {A : Type 0} (q : A → Bool) (d : A) where
   passes_within (x ∷ xs) zero e h = omega arith
   passes_within (x ∷ xs) (suc i) e h = omega (arith, passes_within xs i e h)
 
-  pub some_place : (xs : List A) (f : Found) → place q xs ≡ f → some_of q xs ≡ true → (i : ℕ) × (f ≡ At i)
-  some_place xs Nothing e s = clash s (unplaced q d xs e).some
-  some_place xs (At i) e s = (i, refl)
+  pub some_place : (xs : List A) (f : Option ℕ) → place q xs ≡ f → list_any q xs ≡ true → (i : ℕ) × (f ≡ Some i)
+  some_place xs None e s = clash s (unplaced q d xs e).some
+  some_place xs (Some i) e s = (i, refl)
 
 module _ {A : Type 0} where
   pub set_case : (xs : List A) (i : ℕ) (x : A) (j : ℕ) (d : A) → (get_or (set xs i x) j d ≡ get_or xs j d) ⊎ ((i ≡ j) × (get_or (set xs i x) j d ≡ x))

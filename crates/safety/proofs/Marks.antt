@@ -12,9 +12,9 @@ use native.Mathlib.Omega.{arith}
 use lib.Dec.{eqb}
 use borrow.Author.Tests.{eqb-true, eq-eqb, not-true}
 use Rattle.channels.specs.declared.Named.{Named}
-use Rattle.channels.specs.declared.Named.TheVariants.{All, Pair}
+use Rattle.channels.specs.declared.Named.TheVariants.{All, One}
 use Rattle.channels.specs.declared.Pool.{Pool}
-use Rattle.channels.specs.Channels.{permitted}
+use Rattle.channels.specs.Channels.{pair, permitted}
 use Rattle.channels.proofs.Cases.{by_test, clash, both}
 use Rattle.pairs.specs.Pairs.{is_full, in_pairs, names, Tidy}
 use Rattle.pairs.proofs.Laws.{none_in, none_tidy, with_in, with_tidy, or_swap}
@@ -50,45 +50,45 @@ use Rattle.safety.proofs.Doubtful.{Nameable, sound_nameable, Touched, keeps, put
 -- a VCI has 16 bits
 abbrev pub Narrow : Named → Type 0
 Narrow All = Unit {0}
-Narrow (Pair p v) = v < 65536
+Narrow (One pv) = pv.vci < 65536
 
 -- the single pair that a RESTART names
 abbrev pub names_one : Named → ℕ → ℕ → Bool
 names_one All q w = false
-names_one (Pair p v) q w = eqb p q && eqb v w
+names_one (One pv) q w = eqb pv.vpci q && eqb pv.vci w
 
 pub marked_in : (o : OutOfService) (which : Named) (q w : ℕ) → has_room o which ≡ true → Narrow which
     → in_pairs (with_out o which).pairs q w ≡ (names_one which q w || in_pairs o.pairs q w)
 marked_in o All q w room narrow = refl
-marked_in o (Pair p v) q w room narrow =
-    by_test (in_pairs o.pairs p v)
-    (λ y. rw y (by_test (eqb p q && eqb v w) (λ same. let b = both (eqb p q) (eqb v w) same in rw (same, ← eqb-true p q b.0, ← eqb-true v w b.1) y) (λ n. rw n)))
-    (λ n. rw n (with_in o.pairs p v q w (not-true (is_full o.pairs) room) narrow))
+marked_in o (One pv) q w room narrow =
+    by_test (in_pairs o.pairs pv.vpci pv.vci)
+    (λ y. rw y (by_test (eqb pv.vpci q && eqb pv.vci w) (λ same. let b = both (eqb pv.vpci q) (eqb pv.vci w) same in rw (same, ← eqb-true pv.vpci q b.0, ← eqb-true pv.vci w b.1) y) (λ n. rw n)))
+    (λ n. rw n (with_in o.pairs pv.vpci pv.vci q w (not-true (is_full o.pairs) room) narrow))
 
-pub all_stays : (o : OutOfService) (p v : ℕ) → (with_out o (Pair p v)).all ≡ o.all
+pub all_stays : (o : OutOfService) (p v : ℕ) → (with_out o (One (pair p v))).all ≡ o.all
 all_stays o p v = by_test (in_pairs o.pairs p v) (λ y. rw y) (λ n. rw n)
 
 pub out_in_lem : (o : OutOfService) (which : Named) (q w : ℕ) → has_room o which ≡ true → Narrow which → is_out (with_out o which) q w ≡ (names which q w || is_out o q w)
 out_in_lem o All q w room narrow = refl
-out_in_lem o (Pair p v) q w room narrow =
-    rw (marked_in o (Pair p v) q w room narrow, all_stays o p v) (or_swap o.all (eqb p q && eqb v w) (in_pairs o.pairs q w))
+out_in_lem o (One pv) q w room narrow =
+    rw (marked_in o (One pv) q w room narrow, all_stays o pv.vpci pv.vci) (or_swap o.all (eqb pv.vpci q && eqb pv.vci w) (in_pairs o.pairs q w))
 
-pub single_in : (o : OutOfService) (which : Named) (p v q w : ℕ) → has_room o which ≡ true → Narrow which → which ≡ Pair p v
+pub single_in : (o : OutOfService) (which : Named) (p v q w : ℕ) → has_room o which ≡ true → Narrow which → which ≡ One (pair p v)
     → in_pairs (with_out o which).pairs q w ≡ (names which q w || in_pairs o.pairs q w)
 single_in o All p v q w room narrow e = let z : ◌≡◌ {A = ℕ} 0 1 = cc in absurd (omega arith)
-single_in o (Pair a b) p v q w room narrow e = marked_in o (Pair a b) q w room narrow
+single_in o (One ab) p v q w room narrow e = marked_in o (One ab) q w room narrow
 
 marked_tidy : (o : OutOfService) (which : Named) → Tidy o.pairs → Narrow which → Tidy (with_out o which).pairs
 marked_tidy o All tidy narrow = tidy
-marked_tidy o (Pair p v) tidy narrow = by_test (in_pairs o.pairs p v) (λ y. rw y tidy) (λ n. rw n (with_tidy o.pairs p v tidy n narrow))
+marked_tidy o (One pv) tidy narrow = by_test (in_pairs o.pairs pv.vpci pv.vci) (λ y. rw y tidy) (λ n. rw n (with_tidy o.pairs pv.vpci pv.vci tidy n narrow))
 
 -- No call holds a pair that is named.
 
 call_named : (which : Named) (p v : ℕ) (c : Call) (q : State) → names which p v ≡ true → OnPair p v c → is_named which (live_slot c q) ≡ true
 call_named All p v c q n o = refl
-call_named (Pair a b) p v c q n o =
-    let same = both (eqb a p) (eqb b v) n in
-    rw (eq-eqb _ _ (o.vpci ∙ sym (eqb-true a p same.0)), eq-eqb _ _ (o.vci ∙ sym (eqb-true b v same.1)))
+call_named (One ab) p v c q n o =
+    let same = both (eqb ab.vpci p) (eqb ab.vci v) n in
+    rw (eq-eqb _ _ (o.vpci ∙ sym (eqb-true ab.vpci p same.0)), eq-eqb _ _ (o.vci ∙ sym (eqb-true ab.vci v same.1)))
 
 pub emptied-none : (test : Slot → Bool) → emptied test no_slot ≡ no_slot
 emptied-none test = by_test (test no_slot) (λ y. rw y) (λ n. rw n)
@@ -114,7 +114,7 @@ pub record MarksSound (t : Table) : Type 0 where
 module _ (t : Table) (s : Sound t) where
   narrow : (which : Named) → Nameable t.pool which → Narrow which
   narrow All n = tt
-  narrow (Pair p v) n = omega (arith, (s.numbers p v n).2)
+  narrow (One pv) n = omega (arith, (s.numbers pv.vpci pv.vci n).2)
 
   -- our RESTART names a pair of 16 bits
   pub named_narrow : (which : Named) (second : Bool) (d : ℕ) → t.global.state ≡ RestartRequest which second d → Narrow which
@@ -123,7 +123,7 @@ module _ (t : Table) (s : Sound t) where
   -- a single pair that is marked is permitted
   one_permitted : (which : Named) → Nameable t.pool which → (p v : ℕ) → names_one which p v ≡ true → permitted t.pool p v ≡ true
   one_permitted All n p v y = clash y refl
-  one_permitted (Pair a b) n p v y = let same = both (eqb a p) (eqb b v) y in rw (← eqb-true a p same.0, ← eqb-true b v same.1) n
+  one_permitted (One ab) n p v y = let same = both (eqb ab.vpci p) (eqb ab.vci v) y in rw (← eqb-true ab.vpci p same.0, ← eqb-true ab.vci v same.1) n
 
 module _ (t : Table) (e : Event) (s : Sound t) where
   module _ (x : declared.Change) (change : Change t e (slots_after x t.slots).all) (touched : Touched t (reading_of e) x) where
@@ -171,7 +171,7 @@ module _ (t : Table) (e : Event) (s : Sound t) where
   pub marks_sound : (x : declared.Change) → Change t e (slots_after x t.slots).all → Touched t (reading_of e) x → MarksSound (table_after t (reading_of e) x)
   marks_sound x change keeps = as_before Keep change keeps refl
   marks_sound x change (puts i a n) = as_before (Put i a n) change (puts i a n) refl
-  marks_sound x change (begins i c q live room) = as_before (Doubt i c.vpci c.vci) change (begins i c q live room) refl
+  marks_sound x change (begins i c q live room) = as_before (Doubt i c.pair.vpci c.pair.vci) change (begins i c q live room) refl
   marks_sound x change (ends which) = as_before (Restart which User) change (ends which) refl
   marks_sound x change (acknowledged which) = as_before (Restart which Acknowledged) change (acknowledged which) refl
   marks_sound x change (marks which n room) = now_marked which n room change
@@ -192,7 +192,7 @@ later_global last reading pool g order (all_sent second d below) = all_sent seco
 
 requested_sound : (reading : ℕ) (pool : Pool) (which : Named) (second : Bool) → Nameable pool which → GlobalSound reading pool (RestartRequest which second (reading + t316))
 requested_sound reading pool All second n = all_sent second (reading + t316) (omega arith)
-requested_sound reading pool (Pair p v) second n = one_sent p v second (reading + t316) n (omega arith)
+requested_sound reading pool (One pv) second n = one_sent pv.vpci pv.vci second (reading + t316) n (omega arith)
 
 pub global_sound : (t : Table) (e : Event) → Sound t → t.last ≤ reading_of e → (x : declared.Change) → Touched t (reading_of e) x
     → GlobalSound (reading_of e) t.pool (global_after x t.global).state

@@ -3,6 +3,7 @@
 --   does_wants            what is answered with 45 is such a SETUP
 --   no_pair_exactly, sent_exactly
 -- Assumes nothing.
+use Rattle.std.specs.Prelude.{Some, None}
 use Prim.Native.Nat.{ℕ, ◌≤◌}
 use mathlib.Core.Path.{◌≡◌, refl, sym, ap, ◌∙◌}
 use mathlib.Core.Bool.{true, false}
@@ -11,16 +12,13 @@ use native.Mathlib.Omega.{arith}
 use lib.Dec.{eqb, ltb}
 use lib.ListN.{length, get_or}
 use borrow.Author.Tests.{eqb-true, eqb-false, ne_eqb, eq-eqb, ltb-false, le-ltb}
-use Rattle.channels.specs.declared.Channel.TheVariants.{None}
 use Rattle.channels.specs.declared.Named.{Named}
 use Rattle.channels.proofs.Cases.{by_test, clash}
 use Rattle.channels.proofs.Some.{some_at}
 use Rattle.calls.specs.Calls.{no_slot, is_empty}
-use Rattle.first.specs.declared.Found.TheVariants.{At}
 use Rattle.first.specs.First.{place}
 use Rattle.first.proofs.First.{placed}
 use Rattle.header.specs.declared.Header.{Header}
-use Rattle.header.specs.declared.Head.TheVariants.{Ignored, Is}
 use Rattle.header.specs.Header.{header_in, head_of}
 use Rattle.elements.specs.declared.ConnectionRead.{ConnectionRead}
 use Rattle.elements.specs.declared.RestartRead.{RestartRead}
@@ -58,7 +56,7 @@ use Rattle.safety.proofs.Cause45.{sends45, unsaid, says_45, Not45, AdmissionNot4
 wanted_effect : (t : Table) (label reading room : ℕ) (m : List ℕ) → PassedAllChecks t label reading room m → NoneFree t
     → heard_by t reading m (head_of m) ≡ replying true (header_in m).reference no_pair
 wanted_effect t label reading room m p none =
-    let head : head_of m ≡ Is (header_in m) = rw (le-ltb _ _ p.long_enough, eq-eqb _ _ p.first_octet, eq-eqb _ _ p.second_octet) in
+    let head : head_of m ≡ Some (header_in m) = rw (le-ltb _ _ p.long_enough, eq-eqb _ _ p.first_octet, eq-eqb _ _ p.second_octet) in
     let slot =
     some_place is_empty no_slot t.slots.all (place is_empty t.slots.all) refl
     (some_at is_empty no_slot t.slots.all p.empty_slot.0 p.empty_slot.1.0 (rw p.empty_slot.1.1)) in
@@ -76,7 +74,7 @@ wanted_effect t label reading room m p none =
 
 -- The checks as the paper has them.
 
-head_checks : (m : List ℕ) (h : Header) → head_of m ≡ Is h → (9 ≤ length m) × ((get_or m 0 0 ≡ 0x09) × (get_or m 1 0 ≡ 0x03))
+head_checks : (m : List ℕ) (h : Header) → head_of m ≡ Some h → (9 ≤ length m) × ((get_or m 0 0 ≡ 0x09) × (get_or m 1 0 ≡ 0x03))
 head_checks m h e =
     by_test (ltb (length m) 9)
     (λ a. not_head (rw a at e))
@@ -86,11 +84,11 @@ head_checks m h e =
     (λ c. not_head (rw (a, b, c) at e)))
     (λ b. not_head (rw (a, b) at e)))
   where
-    not_head : {P : Type 0} → Ignored ≡ Is h → P
+    not_head : {P : Type 0} → None ≡ Some h → P
     not_head z = let w : ◌≡◌ {A = ℕ} 0 1 = cc in absurd (omega arith)
 
 setup_wants : (t : Table) (e : Event) (m : List ℕ) (h : Header) (i : ℕ) → refusal_of t e ≡ 0 → view.IsMessage m h e → view.IsSetup t m h e
-    → admission m 9 ≡ Admitted → place is_empty t.slots.all ≡ At i → free_pair t ≡ None → WantsPair t e
+    → admission m 9 ≡ Admitted → place is_empty t.slots.all ≡ Some i → free_pair t ≡ None → WantsPair t e
 setup_wants t e m h i zero (view.heard label reading room head) is admitted found none =
     let setup : view.IsSetup t m (header_in m) e = rw (← head_is m h head) at is in
     let checks = head_checks m h head in

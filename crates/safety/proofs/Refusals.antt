@@ -2,6 +2,7 @@
 --   Reaches, Given                  a number that is not 0 and at most k; a number that satisfies P where it is not 0
 --   applied, reaches
 -- Assumes nothing.
+use Rattle.std.specs.Prelude.{Option, Some, None}
 use Prim.Native.Nat.{ℕ, ◌≤◌, ◌<◌}
 use mathlib.Core.Path.{◌≡◌, refl, ap}
 use mathlib.Core.Logic.{◌≢◌}
@@ -12,8 +13,7 @@ use lib.Dec.{eqb, ltb}
 use lib.ListN.{length, get_or-eq_default}
 use borrow.Author.Tests.{eqb-true, eqb-false, ltb-true, ne_eqb, lt-ltb}
 use Rattle.traffic.specs.Traffic.{member}
-use Rattle.channels.specs.declared.Channel.{Channel}
-use Rattle.channels.specs.declared.Channel.TheVariants as channel
+use Rattle.channels.specs.declared.Pair.{Pair}
 use Rattle.channels.specs.declared.Pool.{Pool}
 use Rattle.channels.specs.Channels.{permitted}
 use Rattle.channels.proofs.Cases.{by_test, clash}
@@ -27,8 +27,6 @@ use Rattle.calls.specs.Calls.{no_slot, is_empty}
 use Rattle.calls.specs.Timers.{largest_reading}
 use Rattle.slots.specs.Slots.{slot_count, hold_at}
 use Rattle.replies.specs.Reply.{reply_room, body_room}
-use Rattle.first.specs.declared.Found.{Found}
-use Rattle.first.specs.declared.Found.TheVariants.{Nothing, At}
 use Rattle.first.specs.First.{place}
 use Rattle.setup.specs.Offer.{offer_fits}
 use Rattle.service.specs.declared.GlobalState.{GlobalState}
@@ -210,18 +208,18 @@ long_body_reaches body h = rw (lt-ltb _ _ h) (omega arith)
 unfit_body_reaches : (body : List ℕ) → offer_fits body ≡ false → Reaches 10 (body_refusal body)
 unfit_body_reaches body h = by_test (ltb body_room (length body)) (λ a. rw a (omega arith)) (λ a. rw (a, h) (omega arith))
 
-slot_high : (f : Found) → slot_refusal f ≤ 11
-slot_high Nothing = omega arith
-slot_high (At i) = omega arith
+slot_high : (f : Option ℕ) → slot_refusal f ≤ 11
+slot_high None = omega arith
+slot_high (Some i) = omega arith
 
 module _ (t : Table) (whole : HasSlots t) (label reading room : ℕ) (body : List ℕ) where
-  slot_applied : (f : Found) → place is_empty t.slots.all ≡ f → Given (Applies t (offer label reading room body)) (slot_refusal f)
-  slot_applied Nothing e h = no_empty_slot label reading room body (none_empty t whole e)
-  slot_applied (At i) e h = absurd (h refl)
+  slot_applied : (f : Option ℕ) → place is_empty t.slots.all ≡ f → Given (Applies t (offer label reading room body)) (slot_refusal f)
+  slot_applied None e h = no_empty_slot label reading room body (none_empty t whole e)
+  slot_applied (Some i) e h = absurd (h refl)
 
-  pair_applied : (c : Channel) → free_pair t ≡ c → Given (Applies t (offer label reading room body)) (pair_refusal c)
-  pair_applied channel.None e h = no_free_pair label reading room body (none_free t e)
-  pair_applied (channel.Pair p v) e h = absurd (h refl)
+  pair_applied : (c : Option Pair) → free_pair t ≡ c → Given (Applies t (offer label reading room body)) (pair_refusal c)
+  pair_applied None e h = no_free_pair label reading room body (none_free t e)
+  pair_applied (Some pv) e h = absurd (h refl)
 
 -- 13.
 

@@ -8,6 +8,7 @@
 --   form_sound               a table that a form is read as
 --   reload_in_lem, reload_sound  a reload that is accepted
 -- Over the number of slots. Assumes nothing.
+use Rattle.std.specs.Prelude.{Option, Some, None}
 use Prim.Native.Nat.{ℕ, zero, suc, ◌+◌, ◌/◌, ◌%◌, ◌≤◌}
 use mathlib.Core.Path.{◌≡◌, refl, sym, ap, ◌∙◌}
 use mathlib.Core.Logic.{◌≢◌}
@@ -19,8 +20,8 @@ use lib.ListN.{length, drop}
 use borrow.Author.Tests.{eqb-true, eqb-false, leb-true, ltb-false, not-true, not-false}
 use Rattle.octets.proofs.Equal.{equal_same}
 use Rattle.traffic.specs.Traffic.{member}
-use Rattle.channels.specs.Some.{some_of}
-use Rattle.channels.specs.declared.Named.TheVariants.{All, Pair}
+use Rattle.std.specs.List.{list_any}
+use Rattle.channels.specs.declared.Named.TheVariants.{All, One}
 use Rattle.channels.specs.declared.Pool.{Pool}
 use Rattle.channels.specs.Channels.{permitted, in_ranges}
 use Rattle.channels.proofs.Cases.{by_test, clash, both}
@@ -37,8 +38,6 @@ use Rattle.calls.specs.declared.State.TheVariants.{N3, N6, N9, N10, N12}
 use Rattle.calls.specs.declared.Call.{Call}
 use Rattle.calls.specs.Calls.{no_slot, is_live, is_call, holds_pair}
 use Rattle.calls.specs.Timers.{largest_reading, t303, t308, t310}
-use Rattle.first.specs.declared.Found.{Found}
-use Rattle.first.specs.declared.Found.TheVariants.{Nothing, At}
 use Rattle.first.specs.First.{place}
 use Rattle.slots.specs.Slots.{slot_count}
 use Rattle.service.specs.declared.GlobalState.{GlobalState}
@@ -64,21 +63,21 @@ slots_counted slot (suc n) f = ap suc (slots_counted (slot + 1) n (behind_slot s
 -- what a kept call has
 pub record Kept (t : Table) (i : ℕ) (c : Call) (q : State) : Type 0 where
   pub not_global : c.reference ≢ 0
-  pub first_on_pair : place (holds_pair c.vpci c.vci) t.slots.all ≡ At i
-  pub first-named : place (is_call c.network c.reference) t.slots.all ≡ At i
-  pub permits : permitted t.pool c.vpci c.vci ≡ true
+  pub first_on_pair : place (holds_pair c.pair.vpci c.pair.vci) t.slots.all ≡ Some i
+  pub first-named : place (is_call c.network c.reference) t.slots.all ≡ Some i
+  pub permits : permitted t.pool c.pair.vpci c.pair.vci ≡ true
   pub state : state_kept t.last c.network q ≡ true
 
-is_at_lem : (i : ℕ) (x : Found) → is_at i x ≡ true → x ≡ At i
-is_at_lem i Nothing e = clash e refl
-is_at_lem i (At j) e = ap At (eqb-true j i e)
+is_at_lem : (i : ℕ) (x : Option ℕ) → is_at i x ≡ true → x ≡ Some i
+is_at_lem i None e = clash e refl
+is_at_lem i (Some j) e = ap Some (eqb-true j i e)
 
 pub call_kept_lem : (t : Table) (i : ℕ) (c : Call) (q : State) → call_kept t i c q ≡ true → Kept t i c q
 call_kept_lem t i c q e =
     let a = both (not (eqb c.reference 0)) _ e in
-    let b = both (is_at i (place (holds_pair c.vpci c.vci) t.slots.all)) _ a.1 in
+    let b = both (is_at i (place (holds_pair c.pair.vpci c.pair.vci) t.slots.all)) _ a.1 in
     let d = both (is_at i (place (is_call c.network c.reference) t.slots.all)) _ b.1 in
-    let f = both (permitted t.pool c.vpci c.vci) _ d.1 in
+    let f = both (permitted t.pool c.pair.vpci c.pair.vci) _ d.1 in
     record {
       not_global = eqb-false c.reference 0 (not-true (eqb c.reference 0) a.0);
       first_on_pair = is_at_lem i _ b.0;
@@ -119,19 +118,19 @@ kept_state last false (N12 k d) e =
 -- a pair in doubt, or out of service by a mark of its own, that is kept: it is not in the other list
 pub record PairKept (t : Table) (others : Pairs) (p v : ℕ) : Type 0 where
   pub permits : permitted t.pool p v ≡ true
-  pub not_held : some_of (holds_pair p v) t.slots.all ≡ false
+  pub not_held : list_any (holds_pair p v) t.slots.all ≡ false
   pub one_way : in_pairs others p v ≡ false
 
 kept_number : (t : Table) (others : Pairs) (n : ℕ) → is_lost t others n ≡ false → PairKept t others (n / 65536) (n % 65536)
 kept_number t others n e =
     let a = neither (not (permitted t.pool (n / 65536) (n % 65536))) _ e in
-    let b = neither (some_of (holds_pair (n / 65536) (n % 65536)) t.slots.all) (in_pairs others (n / 65536) (n % 65536)) a.1 in
+    let b = neither (list_any (holds_pair (n / 65536) (n % 65536)) t.slots.all) (in_pairs others (n / 65536) (n % 65536)) a.1 in
     record { permits = not-false (permitted t.pool (n / 65536) (n % 65536)) a.0; not_held = b.0; one_way = b.1 }
 
-kept_pair : (t : Table) (others : Pairs) (p v : ℕ) (ns : List ℕ) → some_of (is_lost t others) ns ≡ false → some_of (is_number p v) ns ≡ true → PairKept t others p v
+kept_pair : (t : Table) (others : Pairs) (p v : ℕ) (ns : List ℕ) → list_any (is_lost t others) ns ≡ false → list_any (is_number p v) ns ≡ true → PairKept t others p v
 kept_pair t others p v [] e h = clash h refl
 kept_pair t others p v (n ∷ ns) e h =
-    let a = neither (is_lost t others n) (some_of (is_lost t others) ns) e in
+    let a = neither (is_lost t others n) (list_any (is_lost t others) ns) e in
     by_test (is_number p v n)
     (λ y.
     let same = both (eqb (n / 65536) p) (eqb (n % 65536) v) y in
@@ -142,26 +141,26 @@ kept_pair t others p v (n ∷ ns) e h =
 kept_global : (last : ℕ) (pool : Pool) (g : GlobalState) → wait_kept last pool g ≡ true → GlobalSound last pool g
 kept_global last pool Null e = none_sent
 kept_global last pool (RestartRequest All second d) e = all_sent second d (leb-true d (last + t316) (both (leb d (last + t316)) true e).0)
-kept_global last pool (RestartRequest (Pair p v) second d) e =
-    let a = both (leb d (last + t316)) (permitted pool p v) e in
-    one_sent p v second d a.1 (leb-true d (last + t316) a.0)
+kept_global last pool (RestartRequest (One pv) second d) e =
+    let a = both (leb d (last + t316)) (permitted pool pv.vpci pv.vci) e in
+    one_sent pv.vpci pv.vci second d a.1 (leb-true d (last + t316) a.0)
 
 -- where all pairs are out of service
-all_kept_lem : (t : Table) → all_kept t ≡ true → t.out.all ≡ true → (t.doubts.count ≡ 0) × (some_of is_live t.slots.all ≡ false)
+all_kept_lem : (t : Table) → all_kept t ≡ true → t.out.all ≡ true → (t.doubts.count ≡ 0) × (list_any is_live t.slots.all ≡ false)
 all_kept_lem t e y =
-    let a = both (eqb t.doubts.count 0) (not (some_of is_live t.slots.all)) (rw y at e) in
-    (eqb-true t.doubts.count 0 a.0, not-true (some_of is_live t.slots.all) a.1)
+    let a = both (eqb t.doubts.count 0) (not (list_any is_live t.slots.all)) (rw y at e) in
+    (eqb-true t.doubts.count 0 a.0, not-true (list_any is_live t.slots.all) a.1)
 
-none_live : (t : Table) → some_of is_live t.slots.all ≡ false → (p v : ℕ) → Holds t p v → ⊥
+none_live : (t : Table) → list_any is_live t.slots.all ≡ false → (p v : ℕ) → Holds t p v → ⊥
 none_live t none p v h =
     clash (some_at is_live no_slot t.slots.all h.slot (live_within t h.slot h.call h.state h.live) (rw h.live)) none
 
 -- what is kept of a table
 pub record TableKept (t : Table) : Type 0 where
   pub doubts_tidy : Tidy t.doubts
-  pub doubts : some_of (is_lost t t.out.pairs) (listed t.doubts) ≡ false
+  pub doubts : list_any (is_lost t t.out.pairs) (listed t.doubts) ≡ false
   pub marks_tidy : Tidy t.out.pairs
-  pub marks : some_of (is_lost t t.doubts) (listed t.out.pairs) ≡ false
+  pub marks : list_any (is_lost t t.doubts) (listed t.out.pairs) ≡ false
   pub all : all_kept t ≡ true
   pub request : request_kept t ≡ true
   pub calls : (i : ℕ) (c : Call) (q : State) → HasCall t i c q → Kept t i c q
@@ -174,7 +173,7 @@ kept_sound t rs ps size high pool k = record {
   numbers = numbers;
   calls_sound = λ i c q h.
       let call = k.calls i c q h in
-      let n = numbers c.vpci c.vci call.permits in
+      let n = numbers c.pair.vpci c.pair.vci call.permits in
       record {
         pair_permitted = call.permits;
         vpci_high = n.0;
@@ -247,9 +246,9 @@ form_sound count f ours form =
     let a = both (doubts_kept t) _ form.kept in
     let b = both (marks_kept t) _ a.1 in
     let c = both (request_kept t) (all_below (slot_kept t) count) b.1 in
-    let doubts = both (ascending (listed t.doubts)) (not (some_of (is_lost t t.out.pairs) (listed t.doubts))) a.0 in
+    let doubts = both (ascending (listed t.doubts)) (not (list_any (is_lost t t.out.pairs) (listed t.doubts))) a.0 in
     let out = both (pairs_kept t t.doubts t.out.pairs) (all_kept t) b.0 in
-    let marks = both (ascending (listed t.out.pairs)) (not (some_of (is_lost t t.doubts) (listed t.out.pairs))) out.0 in
+    let marks = both (ascending (listed t.out.pairs)) (not (list_any (is_lost t t.doubts) (listed t.out.pairs))) out.0 in
     kept_sound t (range_numbers f) (pair_numbers f) (size ∙ ours) form.reading refl
     (record {
       doubts_tidy = pairs_read 3 (rest (rest (rest f))) doubts.0;

@@ -5,6 +5,7 @@
 --   does_leaves                            what has no part in it leaves it
 --   own_restarts, reached_restarts
 -- Assumes nothing.
+use Rattle.std.specs.Prelude.{Option, Some, None}
 use Prim.Native.Nat.{ℕ, ◌+◌, ◌≤◌, ◌<◌}
 use mathlib.Core.Path.{◌≡◌, refl, sym, ap, ◌∙◌}
 use mathlib.Core.Logic.{◌⊎◌, ⊎_elim, ◌≢◌}
@@ -14,10 +15,9 @@ use native.Mathlib.Omega.{arith}
 use lib.Dec.{eqb, leb, ltb}
 use lib.ListN.{get_or}
 use borrow.Author.Tests.{eqb-true, eq-eqb, leb-true, leb-false, le-leb, ltb-true, ltb-false, lt-ltb, le-ltb, lt-leb, not-true}
-use Rattle.channels.specs.declared.Channel.TheVariants as channel
 use Rattle.channels.specs.declared.Named.{Named}
-use Rattle.channels.specs.declared.Named.TheVariants.{All, Pair}
-use Rattle.channels.specs.Channels.{permanent, known_vpci}
+use Rattle.channels.specs.declared.Named.TheVariants.{All, One}
+use Rattle.channels.specs.Channels.{pair, permanent, known_vpci}
 use Rattle.channels.proofs.Cases.{by_test, clash, both}
 use Rattle.channels.proofs.Some.{some_at, some_none}
 use Rattle.pairs.proofs.Laws.{unless_in}
@@ -26,16 +26,12 @@ use Rattle.calls.specs.declared.Call.{Call}
 use Rattle.calls.specs.declared.Hold.{Hold}
 use Rattle.calls.specs.declared.Hold.TheVariants.{Empty, Live}
 use Rattle.calls.specs.declared.Slot.{Slot}
-use Rattle.calls.specs.declared.Due.{Due}
-use Rattle.calls.specs.declared.Due.TheVariants.{Never, At}
 use Rattle.calls.specs.Calls.{no_slot, is_named, emptied}
 use Rattle.calls.specs.Timers.{state_due, deadline_of, due_by, is_due}
-use Rattle.slots.specs.declared.Soonest.{Soonest}
-use Rattle.slots.specs.declared.Soonest.TheVariants.{Nothing, Timer}
+use Rattle.slots.specs.declared.Timer.{Timer}
 use Rattle.slots.proofs.Each.{some_set}
 use Rattle.slots.specs.Timers.{some_due, earlier, considered, soonest_from, soonest}
 use Rattle.header.specs.declared.Header.{Header}
-use Rattle.header.specs.declared.Head.TheVariants.{Is}
 use Rattle.header.specs.Header.{header_in, head_of}
 use Rattle.elements.specs.declared.ConnectionRead.{ConnectionRead}
 use Rattle.elements.specs.declared.ConnectionRead.TheVariants as connection_read
@@ -86,21 +82,21 @@ use Rattle.safety.proofs.Marks.{Narrow, out_in_lem, single_in, all_stays, emptie
 -- When T316 fires.
 
 -- "those of slots are later": by one slot more
-sooner_one : (b : Soonest) (n x d : ℕ) → sooner (earlier b n x) d ≡ (sooner b d && not (leb x d))
-sooner_one Nothing n x d = by_test (leb x d) (λ y. rw (y, le-ltb d x (leb-true x d y))) (λ n. rw (n, lt-ltb d x (leb-false x d n)))
-sooner_one (Timer m e a) n x d =
-    by_test (ltb x e)
-    (λ y. let k = ltb-true x e y in rw y (by_test (leb x d)
-    (λ a. rw (a, le-ltb d x (leb-true x d a)) (sym (and-false (ltb d e))))
-    (λ a. let l = leb-false x d a in rw (a, lt-ltb d x l, lt-ltb d e (omega arith)))))
-    (λ y. let k = ltb-false x e y in rw y (by_test (leb x d)
-    (λ a. let l = leb-true x d a in rw (a, le-ltb d e (omega arith)))
-    (λ a. rw a (by_test (ltb d e) (λ z. rw z) (λ z. rw z)))))
+sooner_one : (b : Option Timer) (n x d : ℕ) → sooner (earlier b n x) d ≡ (sooner b d && not (leb x d))
+sooner_one None n x d = by_test (leb x d) (λ y. rw (y, le-ltb d x (leb-true x d y))) (λ n. rw (n, lt-ltb d x (leb-false x d n)))
+sooner_one (Some t) n x d =
+    by_test (ltb x t.deadline)
+    (λ y. let k = ltb-true x t.deadline y in rw y (by_test (leb x d)
+    (λ t.another. rw (t.another, le-ltb d x (leb-true x d t.another)) (sym (and-false (ltb d t.deadline))))
+    (λ t.another. let l = leb-false x d t.another in rw (t.another, lt-ltb d x l, lt-ltb d t.deadline (omega arith)))))
+    (λ y. let k = ltb-false x t.deadline y in rw y (by_test (leb x d)
+    (λ t.another. let l = leb-true x d t.another in rw (t.another, le-ltb d t.deadline (omega arith)))
+    (λ t.another. rw t.another (by_test (ltb d t.deadline) (λ z. rw z) (λ z. rw z)))))
 
-sooner-considered : (reading : ℕ) (b : Soonest) (n : ℕ) (s : Slot) (d : ℕ) → d ≤ reading
-    → (x : Due) → deadline_of s ≡ x → sooner (considered reading b n x) d ≡ (sooner b d && not (is_due d s))
-sooner-considered reading b n s d h Never e = rw e (by_test (sooner b d) (λ y. rw y) (λ n. rw n))
-sooner-considered reading b n s d h (At x) e =
+sooner-considered : (reading : ℕ) (b : Option Timer) (n : ℕ) (s : Slot) (d : ℕ) → d ≤ reading
+    → (x : Option ℕ) → deadline_of s ≡ x → sooner (considered reading b n x) d ≡ (sooner b d && not (is_due d s))
+sooner-considered reading b n s d h None e = rw e (by_test (sooner b d) (λ y. rw y) (λ n. rw n))
+sooner-considered reading b n s d h (Some x) e =
     by_test (leb x reading)
     (λ y. rw (e, y) (sooner_one b n x d))
     (λ y. let k = leb-false x reading y in rw (e, y, lt-leb x d (omega arith)) (by_test (sooner b d) (λ y. rw y) (λ n. rw n)))
@@ -114,7 +110,7 @@ and_always : (a : Bool) → a ≡ (a && true)
 and_always true = refl
 and_always false = refl
 
-sooner_all : (reading : ℕ) (b : Soonest) (n : ℕ) (ss : List Slot) (d : ℕ) → d ≤ reading → sooner (soonest_from reading b n ss) d ≡ (sooner b d && not (some_due d ss))
+sooner_all : (reading : ℕ) (b : Option Timer) (n : ℕ) (ss : List Slot) (d : ℕ) → d ≤ reading → sooner (soonest_from reading b n ss) d ≡ (sooner b d && not (some_due d ss))
 sooner_all reading b n [] d h = and_always (sooner b d)
 sooner_all reading b n (s ∷ ss) d h =
     sooner_all reading (considered reading b n (deadline_of s)) (n + 1) ss d h
@@ -122,31 +118,31 @@ sooner_all reading b n (s ∷ ss) d h =
 
 module _ (t : Table) where
   -- a slot's timer, by the state of its call
-  live_due : (i : ℕ) (c : Call) (q : State) (d x : ℕ) → HasCall t i c q → state_due q ≡ At x → is_due d (slot_at t i) ≡ leb x d
+  live_due : (i : ℕ) (c : Call) (q : State) (d x : ℕ) → HasCall t i c q → state_due q ≡ Some x → is_due d (slot_at t i) ≡ leb x d
   live_due i c q d x h e = rw (h, e)
 
-  hold_due_lem : (i : ℕ) (d : ℕ) (k : Hold) → (slot_at t i).hold ≡ k → ((c : Call) (q : State) (x : ℕ) → HasCall t i c q → state_due q ≡ At x → d < x) → is_due d (slot_at t i) ≡ false
+  hold_due_lem : (i : ℕ) (d : ℕ) (k : Hold) → (slot_at t i).hold ≡ k → ((c : Call) (q : State) (x : ℕ) → HasCall t i c q → state_due q ≡ Some x → d < x) → is_due d (slot_at t i) ≡ false
   hold_due_lem i d Empty e later = rw e
   hold_due_lem i d (Live c q) e later = state_due_lem (state_due q) refl
     where
-      state_due_lem : (x : Due) → state_due q ≡ x → is_due d (slot_at t i) ≡ false
-      state_due_lem Never f = rw (e, f)
-      state_due_lem (At x) f = live_due i c q d x e f ∙ lt-leb x d (later c q x e f)
+      state_due_lem : (x : Option ℕ) → state_due q ≡ x → is_due d (slot_at t i) ≡ false
+      state_due_lem None f = rw (e, f)
+      state_due_lem (Some x) f = live_due i c q d x e f ∙ lt-leb x d (later c q x e f)
 
   module _ (reading d : ℕ) where
     abbrev first : Bool
-    first = request_first reading (soonest reading t.slots.all) (At d)
+    first = request_first reading (soonest reading t.slots.all) (Some d)
 
     pub next_fires : T316Next t reading d → first ≡ true
     next_fires n =
         let none = some_none (is_due d) no_slot t.slots.all (λ i below. hold_due_lem i d (slot_at t i).hold refl (n.slots_later i)) in
-        rw (le-leb d reading n.due) (sooner_all reading Nothing 0 t.slots.all d n.due ∙ rw none)
+        rw (le-leb d reading n.due) (sooner_all reading None 0 t.slots.all d n.due ∙ rw none)
 
     pub fires_next : first ≡ true → T316Next t reading d
     fires_next y =
         let b = both (leb d reading) (sooner (soonest reading t.slots.all) d) y in
         let due = leb-true d reading b.0 in
-        let none : some_due d t.slots.all ≡ false = not-true (some_due d t.slots.all) (sym (sooner_all reading Nothing 0 t.slots.all d due) ∙ b.1) in
+        let none : some_due d t.slots.all ≡ false = not-true (some_due d t.slots.all) (sym (sooner_all reading None 0 t.slots.all d due) ∙ b.1) in
         record {
           due = due;
           slots_later = λ i c q x h e.
@@ -176,7 +172,7 @@ module _ (t : Table) (reading : ℕ) (more : Bool) where
     where
       sent : (which : Named) → reply_octets false 0 (restart_of which) ≡ restart_octets which
       sent All = refl
-      sent (Pair p v) = refl
+      sent (One (pair p v)) = refl
 
   ends : (which : Named) (why : Ending) → (global_ended why t.global).state ≡ Null → Ends t (sending t reading (ending which why) more []) which
   ends which why null = record {
@@ -218,9 +214,9 @@ is_connection_lem p v (connection_read.Pair q w) y = let b = both (eqb q p) (eqb
 
 is_same_lem : (m : List ℕ) (which : Named) → (header_in m).whole ≡ true → is_same which (restart_in m 9) (connection_in m 9) ≡ true → Same m which
 is_same_lem m All whole y = all whole (is_class_lem 0x82 (restart_in m 9) y)
-is_same_lem m (Pair p v) whole y =
-    let b = both (is_class 0x80 (restart_in m 9)) (is_connection p v (connection_in m 9)) y in
-    one p v whole (is_class_lem 0x80 (restart_in m 9) b.0) (is_connection_lem p v (connection_in m 9) b.1)
+is_same_lem m (One pv) whole y =
+    let b = both (is_class 0x80 (restart_in m 9)) (is_connection pv.vpci pv.vci (connection_in m 9)) y in
+    one pv.vpci pv.vci whole (is_class_lem 0x80 (restart_in m 9) b.0) (is_connection_lem pv.vpci pv.vci (connection_in m 9) b.1)
 
 module _ (t : Table) (reading : ℕ) (m : List ℕ) (is : IsAcknowledge m) where
   abbrev decided : Effect
@@ -319,7 +315,7 @@ elsewhere t e (heard label reading room m other) =
         let same = head_is m h head in
         let k = both (eqb h.kind 0x4E) h.flag is.acknowledge in
         other (record {
-          head = head ∙ ap Is (sym same);
+          head = head ∙ ap Some (sym same);
           kind = ap (λ (x : Header). x.kind) same ∙ eqb-true h.kind 0x4E k.0;
           flag = ap (λ (x : Header). x.flag) same ∙ k.1;
           global = ap (λ (x : Header). x.reference) same ∙ eqb-true h.reference 0 is.global;
@@ -380,7 +376,7 @@ module _ (t : Table) (m : List ℕ) (h : Header) where
       (by_cond ShowsOwn h.whole _ _ (acknowledge_own t.global.state (restart_in m 9) (connection_in m 9)) (λ z. absurd (omega arith)))
       reply_own)
 
-status_shows : (t : Table) (label reading room : ℕ) (m : List ℕ) → head_of m ≡ Is (header_in m) → (header_in m).reference ≡ 0
+status_shows : (t : Table) (label reading room : ℕ) (m : List ℕ) → head_of m ≡ Some (header_in m) → (header_in m).reference ≡ 0
     → get_or (happens t (message label reading room m)).reply 5 0 ≡ 0x7D
     → get_or (happens t (message label reading room m)).reply 13 0 ≡ cond (is_waiting t.global.state) 61 0
 status_shows t label reading room m head global =
@@ -397,7 +393,7 @@ given_to_none t e p v bar =
     (λ y. rw (left_accepted t e y) (λ h. by_origin h ((outcome_change t e (eqb-true (refusal_of t e) 0 y)).comes h.slot h.call h.state h.live)))
     (λ n. rw (left-refused t e n) (λ h. h))
   where
-    not_free : free_pair t ≢ channel.Pair p v
+    not_free : free_pair t ≢ Some (pair p v)
     not_free = ⊎_elim (λ (o : IsOut t p v). out_not_free t p v o) (λ (n : UnderRestart t p v). named_not_free t p v n) bar
 
     by_origin : (h : Holds (outcome_of t e).answer.table p v) → Comes t e h.slot h.call h.state → Holds t p v

@@ -2,19 +2,18 @@
 --   forgetful, forgetful_ruled_out     RESTART ACKNOWLEDGE takes the marks away
 --   hasty, hasty_ruled_out             T316 comes before a slot of equal deadline
 -- Assumes nothing.
+use Rattle.channels.specs.Channels.{pair}
+use Rattle.std.specs.Prelude.{Option, Some, None}
 use Prim.Native.Nat.{ℕ}
 use mathlib.Core.Path.{◌≡◌, refl, ap}
 use mathlib.Core.Bool.{Bool, true, false, cond, ◌&&◌}
 use mathlib.Core.List.{List, [], ◌∷◌}
 use native.Mathlib.Omega.{arith}
 use lib.Dec.{leb}
-use Rattle.channels.specs.declared.Named.TheVariants.{All, Pair}
+use Rattle.channels.specs.declared.Named.TheVariants.{All, One}
 use Rattle.channels.proofs.Cases.{clash}
-use Rattle.calls.specs.declared.Due.{Due}
-use Rattle.calls.specs.declared.Due.TheVariants.{Never, At}
 use Rattle.calls.specs.Timers.{due_by}
-use Rattle.slots.specs.declared.Soonest.{Soonest}
-use Rattle.slots.specs.declared.Soonest.TheVariants.{Nothing, Timer}
+use Rattle.slots.specs.declared.Timer.{Timer}
 use Rattle.slots.specs.Timers.{soonest}
 use Rattle.service.specs.declared.Global.{Global}
 use Rattle.service.specs.declared.OutOfService.{OutOfService}
@@ -79,13 +78,13 @@ forgetful_ruled_out h =
 
 -- T316 comes before a slot of equal deadline.
 
-abbrev pub not_later : Soonest → ℕ → Bool
-not_later Nothing d = true
-not_later (Timer i least another) d = leb d least
+abbrev pub not_later : Option Timer → ℕ → Bool
+not_later None d = true
+not_later (Some t) d = leb d t.deadline
 
-abbrev pub first_of_equal : ℕ → Soonest → Due → Bool
-first_of_equal reading s Never = false
-first_of_equal reading s (At d) = due_by reading (At d) && not_later s d
+abbrev pub first_of_equal : ℕ → Option Timer → Option ℕ → Bool
+first_of_equal reading s None = false
+first_of_equal reading s (Some d) = due_by reading (Some d) && not_later s d
 
 abbrev pub hasty : Table → Event → Outcome
 hasty t (message label reading room m) = happens t (message label reading room m)
@@ -103,14 +102,14 @@ hasty t (put_marks_back label reading room) = happens t (put_marks_back label re
 abbrev together : List Event
 together = message 1 0 1024 (setup 1) ∷ restart 1 0 1024 (target.One 0 33) ∷ clear 1 90000 1024 0 16 ∷ []
 
-one_deadline : (d e : ℕ) → At d ≡ At e → d ≡ e
+one_deadline : (d e : ℕ) → Some d ≡ Some e → d ≡ e
 one_deadline d e h = cc
 
 pub hasty_ruled_out : ¬ ((t : Table) → Sound t → OwnRestarts hasty t)
 hasty_ruled_out h =
     let t = after begun together in
     let k = h t (after_sound begun together (start_sound ranges [])) in
-    let slot-first = k.slots_first 1 120000 1024 (Pair 0 33) false 120000 refl
+    let slot-first = k.slots_first 1 120000 1024 (One (pair 0 33)) false 120000 refl
     (λ next. let z = next.slots_later 0 (user_call 1 0 32) (clearing 90000 false 16 false) 120000 refl refl in absurd (omega arith)) in
     let same : ◌≡◌ {A = ℕ} 240000 120000 = one_deadline 240000 120000 (ap (λ (g : Global). global_due g.state) slot-first.under_way) in
     absurd (omega arith)

@@ -5,6 +5,7 @@
 --   reply_kind, sent_kind_lem, no_status_for_status     octet 6 of what is sent is its type
 --   pool_stays, permanent_stays
 -- Assumes nothing.
+use Rattle.std.specs.Prelude.{Option, Some, None}
 use Prim.Native.Nat.{ℕ}
 use mathlib.Core.Path.{◌≡◌, refl, sym, ap, ◌∙◌}
 use mathlib.Core.Logic.{◌≢◌}
@@ -24,8 +25,6 @@ use Rattle.calls.specs.declared.Hold.TheVariants.{Empty, Live}
 use Rattle.calls.specs.declared.Slot.{Slot}
 use Rattle.calls.specs.Calls.{no_slot, is_call}
 use Rattle.calls.proofs.Calls.{call_named_once}
-use Rattle.first.specs.declared.Found.{Found}
-use Rattle.first.specs.declared.Found.TheVariants.{Nothing, At}
 use Rattle.first.specs.First.{place}
 use Rattle.slots.specs.Slots.{hold_at}
 use Rattle.header.specs.declared.Header.{Header}
@@ -65,7 +64,7 @@ use Rattle.safety.proofs.Sound.{always_permitted}
 
 pub not_handed_out : (t : Table) → NotHandedOut t
 not_handed_out t = record {
-  held = λ i c q h. held_not_free t c.vpci c.vci (record { slot = i; call = c; state = q; live = h; pair = record { vpci = refl; vci = refl } });
+  held = λ i c q h. held_not_free t c.pair.vpci c.pair.vci (record { slot = i; call = c; state = q; live = h; pair = record { vpci = refl; vci = refl } });
   in_doubt = doubt_not_free t;
   none_out_of_service = out_not_free t;
   none_under_restart = named_not_free t;
@@ -101,10 +100,10 @@ hold_idle : (m : List ℕ) (h : Header) (reading i : ℕ) (k : Hold) → h.kind 
 hold_idle m h reading i Empty e = record { change = refl; silent = refl }
 hold_idle m h reading i (Live c q) e = rw e (record { change = refl; silent = refl })
 
-found_idle : (t : Table) (m : List ℕ) (h : Header) (reading i : ℕ) (c : Call) (q : State) (f : Found) → Names t h i c q → h.kind ≡ 0x05
+found_idle : (t : Table) (m : List ℕ) (h : Header) (reading i : ℕ) (c : Call) (q : State) (f : Option ℕ) → Names t h i c q → h.kind ≡ 0x05
     → place (is_call h.flag h.reference) t.slots.all ≡ f → Idle (addressed t m h reading f)
-found_idle t m h reading i c q Nothing n e g = absurd (nothing_named t h.flag h.reference g i c q n.live n.side n.value)
-found_idle t m h reading i c q (At k) n e g = hold_idle m h reading k (hold_at t.slots.all k) e
+found_idle t m h reading i c q None n e g = absurd (nothing_named t h.flag h.reference g i c q n.live n.side n.value)
+found_idle t m h reading i c q (Some k) n e g = hold_idle m h reading k (hold_at t.slots.all k) e
 
 setup_idle : (t : Table) (m : List ℕ) (h : Header) (reading i : ℕ) (c : Call) (q : State) → Names t h i c q → h.kind ≡ 0x05 → Idle (message_effect t m h reading)
 setup_idle t m h reading i c q n e =
@@ -225,7 +224,7 @@ pool_stays t e = view.by_event t e (λ (o : Outcome). o.answer.table.pool ≡ t.
 pub permanent_stays : (t : Table) → Reached t → PermanentStays t
 permanent_stays t r = record {
   held_by_none = λ i c q h.
-      not-true (permanent t.pool c.vpci c.vci)
-      (both (in_ranges c.vpci c.vci t.pool.ranges) _ (always_permitted t r i c q h)).1;
+      not-true (permanent t.pool c.pair.vpci c.pair.vci)
+      (both (in_ranges c.pair.vpci c.pair.vci t.pool.ranges) _ (always_permitted t r i c q h)).1;
   pool_stays = pool_stays t;
 }

@@ -46,11 +46,11 @@ use Rattle.safety.proofs.Lists.{get_or-replicate_default}
 use Rattle.safety.proofs.Cases.{beq_same, one_place}
 
 module _ (t : Table) (e : Event) (c : Call) (q : State) (n : NewCall t e c q) where
-  new_permitted : permitted t.pool c.vpci c.vci ≡ true
-  new_permitted = free_permitted t c.vpci c.vci n.pair
+  new_permitted : permitted t.pool c.pair.vpci c.pair.vci ≡ true
+  new_permitted = free_permitted t c.pair.vpci c.pair.vci n.pair
 
-  pub new_free : {P : Type 0} → Holds t c.vpci c.vci → P
-  new_free h = absurd (held_not_free t c.vpci c.vci h n.pair)
+  pub new_free : {P : Type 0} → Holds t c.pair.vpci c.pair.vci → P
+  new_free h = absurd (held_not_free t c.pair.vpci c.pair.vci h n.pair)
 
   pub new_unnamed : {P : Type 0} (i : ℕ) (d : Call) (r : State) → HasCall t i d r → d.network ≡ c.network → d.reference ≡ c.reference → P
   new_unnamed i d r h side value =
@@ -74,7 +74,7 @@ module _ (t : Table) (e : Event) (s : Sound t) (order : t.last ≤ reading_of e)
         state_sound = f k.state_sound;
       }
   call_sound j c r (new n h) =
-      let k = s.numbers c.vpci c.vci (new_permitted t e c r n) in
+      let k = s.numbers c.pair.vpci c.pair.vci (new_permitted t e c r n) in
       record {
         pair_permitted = new_permitted t e c r n;
         vpci_high = k.0;
@@ -84,7 +84,7 @@ module _ (t : Table) (e : Event) (s : Sound t) (order : t.last ≤ reading_of e)
         state_sound = n.state;
       }
 
-  pair_once : (i j : ℕ) (c d : Call) (q r : State) → Comes t e i c q → Comes t e j d r → c.vpci ≡ d.vpci → c.vci ≡ d.vci → i ≡ j
+  pair_once : (i j : ℕ) (c d : Call) (q r : State) → Comes t e i c q → Comes t e j d r → c.pair.vpci ≡ d.pair.vpci → c.pair.vci ≡ d.pair.vci → i ≡ j
   pair_once i j c d q r (old a h f) (old b k g) p v = s.pair_once i j c d a b h k p v
   pair_once i j c d q r (old a h f) (new n place) p v = new_free t e d r n (record { slot = i; call = c; state = a; live = h; pair = record { vpci = p; vci = v } })
   pair_once i j c d q r (new n place) (old b k g) p v =
@@ -179,12 +179,12 @@ pub reached_sound : (t : Table) → Reached t → Sound t
 reached_sound t r = rw r.gives at (after_sound (begun r.beginning).table r.events (begun_sound r.beginning r.accepted))
 
 -- "No two live calls hold one VPCI/VCI pair"
-pub never_shared : (t : Table) → Reached t → (i j : ℕ) (c d : Call) (q r : State) → HasCall t i c q → HasCall t j d r → c.vpci ≡ d.vpci → c.vci ≡ d.vci → i ≡ j
+pub never_shared : (t : Table) → Reached t → (i j : ℕ) (c d : Call) (q r : State) → HasCall t i c q → HasCall t j d r → c.pair.vpci ≡ d.pair.vpci → c.pair.vci ≡ d.pair.vci → i ≡ j
 never_shared t r = (reached_sound t r).pair_once
 
-pub always_permitted : (t : Table) → Reached t → (i : ℕ) (c : Call) (q : State) → HasCall t i c q → permitted t.pool c.vpci c.vci ≡ true
+pub always_permitted : (t : Table) → Reached t → (i : ℕ) (c : Call) (q : State) → HasCall t i c q → permitted t.pool c.pair.vpci c.pair.vci ≡ true
 always_permitted t r i c q h = ((reached_sound t r).calls_sound i c q h).pair_permitted
 
 -- "every assigned VCI lies in 32 to 65535"
-pub always_in_limits : (t : Table) → Reached t → (i : ℕ) (c : Call) (q : State) → HasCall t i c q → (32 ≤ c.vci) × (c.vci ≤ 65535)
+pub always_in_limits : (t : Table) → Reached t → (i : ℕ) (c : Call) (q : State) → HasCall t i c q → (32 ≤ c.pair.vci) × (c.pair.vci ≤ 65535)
 always_in_limits t r i c q h = let k = (reached_sound t r).calls_sound i c q h in (k.vci_low, k.vci_high)

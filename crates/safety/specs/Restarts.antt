@@ -10,19 +10,18 @@
 --   Elsewhere                        events that have no part in it
 --   OwnRestarts                      the whole, of a controller on a table; `happens` is the one that there is
 -- Assumes nothing.
-use Rattle.std.specs.Prelude.{ℕ, ◌+◌, ◌≤◌, ◌<◌, ◌≡◌, ◌⊎◌, Bool, true, false, cond, not, ◌&&◌, ◌||◌, List, [], ◌∷◌, map, get_or, replicate}
-use Rattle.channels.specs.Some.{some_of}
+use Rattle.channels.specs.Channels.{pair}
+use Rattle.std.specs.Prelude.{ℕ, ◌+◌, ◌≤◌, ◌<◌, ◌≡◌, ◌⊎◌, Bool, true, false, cond, not, ◌&&◌, ◌||◌, List, [], ◌∷◌, map, get_or, replicate, Some}
+use Rattle.std.specs.List.{list_any}
 use Rattle.channels.specs.declared.Named.{Named}
-use Rattle.channels.specs.declared.Named.TheVariants.{All, Pair}
+use Rattle.channels.specs.declared.Named.TheVariants.{All, One}
 use Rattle.pairs.specs.Pairs.{in_pairs, names}
 use Rattle.calls.specs.declared.State.{State}
 use Rattle.calls.specs.declared.Call.{Call}
-use Rattle.calls.specs.declared.Due.TheVariants.{At}
 use Rattle.calls.specs.Calls.{no_slot, is_named}
 use Rattle.calls.specs.Timers.{state_due, due_by}
 use Rattle.slots.specs.Slots.{slot_count}
 use Rattle.slots.specs.Timers.{some_due}
-use Rattle.header.specs.declared.Head.TheVariants.{Is}
 use Rattle.header.specs.Header.{header_in, head_of}
 use Rattle.elements.specs.declared.ConnectionRead.TheVariants as connection_read
 use Rattle.elements.specs.declared.RestartRead.TheVariants as restart_read
@@ -41,9 +40,9 @@ use Rattle.views.specs.Tables.{slot_at, HasCall, Holds, IsOut, UnderRestart}
 -- "We send RESTART with global reference and flag 0, 79 and for one pair 5A"
 abbrev pub restart_octets : Named → List ℕ
 restart_octets All = 0x09 ∷ 0x03 ∷ 0x00 ∷ 0x00 ∷ 0x00 ∷ 0x46 ∷ 0x80 ∷ 0x00 ∷ 0x05 ∷ 0x79 ∷ 0x80 ∷ 0x00 ∷ 0x01 ∷ 0x82 ∷ []
-restart_octets (Pair p v) =
+restart_octets (One pv) =
     0x09 ∷ 0x03 ∷ 0x00 ∷ 0x00 ∷ 0x00 ∷ 0x46 ∷ 0x80 ∷ 0x00 ∷ 0x0E ∷ 0x79 ∷ 0x80 ∷ 0x00 ∷ 0x01 ∷ 0x80
-    ∷ 0x5A ∷ 0x80 ∷ 0x00 ∷ 0x05 ∷ 0x88 ∷ high p ∷ low p ∷ high v ∷ low v ∷ []
+    ∷ 0x5A ∷ 0x80 ∷ 0x00 ∷ 0x05 ∷ 0x88 ∷ high pv.vpci ∷ low pv.vpci ∷ high pv.vci ∷ low pv.vci ∷ []
 
 -- "the old STATUS 101": state 0, and the type as its diagnostic
 abbrev pub status101 : List ℕ
@@ -74,7 +73,7 @@ module _ (t : Table) (o : Outcome) where
   pub record Ends (which : Named) : Type 0 where
     pub ended : u.global.state ≡ Null
     pub calls : (i : ℕ) → slot_at u i ≡ cond (is_named which (slot_at t i)) no_slot (slot_at t i)
-    pub notice : o.answer.notice ≡ cond (some_of (is_named which) t.slots.all) 3 0
+    pub notice : o.answer.notice ≡ cond (list_any (is_named which) t.slots.all) 3 0
     pub flags : o.answer.flags.on ≡ map (is_named which) t.slots.all
     pub doubts : (p v : ℕ) → in_pairs u.doubts p v ≡ (not (names which p v) && in_pairs t.doubts p v)
     pub no_reply : o.reply ≡ []
@@ -89,9 +88,9 @@ module _ (t : Table) (o : Outcome) where
     pub ends : Ends which
     pub marks : (p v : ℕ) → is_out u.out p v ≡ (names which p v || is_out t.out p v)
     pub all : which ≡ All → u.out ≡ record { all = true; pairs = t.out.pairs }
-    pub one : (p v : ℕ) → which ≡ Pair p v → u.out.all ≡ t.out.all
+    pub one : (p v : ℕ) → which ≡ One (pair p v) → u.out.all ≡ t.out.all
     -- a single pair gets a mark of its own, beside "all" too
-    pub single : (p v : ℕ) → which ≡ Pair p v → (q w : ℕ) → in_pairs u.out.pairs q w ≡ (names which q w || in_pairs t.out.pairs q w)
+    pub single : (p v : ℕ) → which ≡ One (pair p v) → (q w : ℕ) → in_pairs u.out.pairs q w ≡ (names which q w || in_pairs t.out.pairs q w)
 
   -- "Any other is discarded": its reading is stored
   pub record Discards (reading : ℕ) : Type 0 where
@@ -121,7 +120,7 @@ module _ (t : Table) (o : Outcome) where
 
 -- RESTART ACKNOWLEDGE with flag 1 on the global reference, past the header checks
 pub record IsAcknowledge (m : List ℕ) : Type 0 where
-  pub head : head_of m ≡ Is (header_in m)
+  pub head : head_of m ≡ Some (header_in m)
   pub kind : (header_in m).kind ≡ 0x4E
   pub flag : (header_in m).flag ≡ true
   pub global : (header_in m).reference ≡ 0
@@ -129,12 +128,12 @@ pub record IsAcknowledge (m : List ℕ) : Type 0 where
 -- "RESTART ACKNOWLEDGE with flag 1 then goes on to step 5. One with 79, and for one pair 5A, readable and the same"
 pub data Same (m : List ℕ) : Named → Type 0 where
   all : (header_in m).whole ≡ true → restart_in m 9 ≡ restart_read.Class 0x82 → Same m All
-  one : (p v : ℕ) → (header_in m).whole ≡ true → restart_in m 9 ≡ restart_read.Class 0x80 → connection_in m 9 ≡ connection_read.Pair p v → Same m (Pair p v)
+  one : (p v : ℕ) → (header_in m).whole ≡ true → restart_in m 9 ≡ restart_read.Class 0x80 → connection_in m 9 ≡ connection_read.Pair p v → Same m (One (pair p v))
 
 -- "Due: reading at least the deadline."; "In a tick T316 comes after slots of equal deadline.": those of slots are later
 pub record T316Next (t : Table) (reading deadline : ℕ) : Type 0 where
   pub due : deadline ≤ reading
-  pub slots_later : (i : ℕ) (c : Call) (q : State) (d : ℕ) → HasCall t i c q → state_due q ≡ At d → deadline < d
+  pub slots_later : (i : ℕ) (c : Call) (q : State) (d : ℕ) → HasCall t i c q → state_due q ≡ Some d → deadline < d
 
 -- every message but RESTART ACKNOWLEDGE with flag 1 on the global reference, a user's RESTART too, and the host's other commands
 pub data Elsewhere : Event → Type 0 where
@@ -184,7 +183,7 @@ pub record OwnRestarts (controller : Table → Event → Outcome) (t : Table) : 
       → let o = controller t (tick label reading room) in
       o.answer.more ≡ (some_due reading o.answer.table.slots.all || due_by reading (global_due o.answer.table.global.state))
   -- "Global STATUS now shows Restart Request, 61, while waiting.": STATUS is of type 7D, and Call state comes first
-  pub status_shows : (label reading room : ℕ) (m : List ℕ) → head_of m ≡ Is (header_in m) → (header_in m).reference ≡ 0
+  pub status_shows : (label reading room : ℕ) (m : List ℕ) → head_of m ≡ Some (header_in m) → (header_in m).reference ≡ 0
       → let o = controller t (message label reading room m) in
       get_or o.reply 5 0 ≡ 0x7D → get_or o.reply 13 0 ≡ cond (is_waiting t.global.state) 61 0
   -- nothing else has a part in it

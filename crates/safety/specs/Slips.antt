@@ -5,9 +5,8 @@
 --   NoStatusForStatus                                                 "STATUS answered with STATUS."
 --   PermanentStays                                                    "A permanent pair cleared by "all"."
 -- Assumes nothing.
-use Rattle.std.specs.Prelude.{ℕ, ◌≡◌, ◌⊎◌, ◌≢◌, true, false, List, [], ◌∷◌, get_or}
-use Rattle.channels.specs.declared.Channel.TheVariants.{Pair}
-use Rattle.channels.specs.Channels.{permanent}
+use Rattle.std.specs.Prelude.{ℕ, ◌≡◌, ◌⊎◌, ◌≢◌, true, false, List, [], ◌∷◌, get_or, Some}
+use Rattle.channels.specs.Channels.{pair, permanent}
 use Rattle.calls.specs.declared.State.{State}
 use Rattle.calls.specs.declared.State.TheVariants.{N3, N6}
 use Rattle.calls.specs.declared.Call.{Call}
@@ -15,7 +14,6 @@ use Rattle.calls.specs.declared.Slot.{Slot}
 use Rattle.calls.specs.Calls.{no_slot, is_call}
 use Rattle.calls.specs.Timers.{t303}
 use Rattle.header.specs.declared.Header.{Header}
-use Rattle.header.specs.declared.Head.TheVariants.{Is}
 use Rattle.header.specs.Header.{header_in, head_of}
 use Rattle.setup.specs.Setup.{admission}
 use Rattle.verdicts.specs.Expiry.{clearing}
@@ -53,10 +51,10 @@ ReleaseFreesNone t e = get_or (happens t e).reply 5 0 ≡ 0x4D → (i : ℕ) (c 
 -- the pair of a live call, in N12 as in every other state, is not the one that a new call gets; nor is a pair in doubt, or, by document 02, R-4,
 -- one out of service or named by our RESTART: "Named pairs while T316 runs, and out-of-service pairs, are not free."
 pub record NotHandedOut (t : Table) : Type 0 where
-  pub held : (i : ℕ) (c : Call) (q : State) → HasCall t i c q → free_pair t ≢ Pair c.vpci c.vci
-  pub in_doubt : (p v : ℕ) → InDoubt t p v → free_pair t ≢ Pair p v
-  pub none_out_of_service : (p v : ℕ) → IsOut t p v → free_pair t ≢ Pair p v
-  pub none_under_restart : (p v : ℕ) → UnderRestart t p v → free_pair t ≢ Pair p v
+  pub held : (i : ℕ) (c : Call) (q : State) → HasCall t i c q → free_pair t ≢ Some c.pair
+  pub in_doubt : (p v : ℕ) → InDoubt t p v → free_pair t ≢ Some (pair p v)
+  pub none_out_of_service : (p v : ℕ) → IsOut t p v → free_pair t ≢ Some (pair p v)
+  pub none_under_restart : (p v : ℕ) → UnderRestart t p v → free_pair t ≢ Some (pair p v)
 
 -- after an accepted clear the call is in N12 in its slot, with its pair
 abbrev pub ReleasedHolds : Table → Type 0
@@ -97,7 +95,7 @@ pub record Untouched (t : Table) (o : Outcome) : Type 0 where
   pub notice : o.answer.notice ≡ 0
 
 abbrev pub DuplicateIgnored : Table → Type 0
-DuplicateIgnored t = (label reading room : ℕ) (m : List ℕ) (i : ℕ) (c : Call) (q : State) → head_of m ≡ Is (header_in m) → (header_in m).kind ≡ 0x05
+DuplicateIgnored t = (label reading room : ℕ) (m : List ℕ) (i : ℕ) (c : Call) (q : State) → head_of m ≡ Some (header_in m) → (header_in m).kind ≡ 0x05
     → Names t (header_in m) i c q → Untouched t (message_of t label reading room m)
 
 -- "STATUS answered with STATUS.": octet 6 of a message is its type
@@ -106,5 +104,5 @@ NoStatusForStatus t = (label reading room : ℕ) (m : List ℕ) → get_or m 5 0
 
 -- "A permanent pair cleared by "all".": no live call ever holds one, and no event changes what start permits
 pub record PermanentStays (t : Table) : Type 0 where
-  pub held_by_none : (i : ℕ) (c : Call) (q : State) → HasCall t i c q → permanent t.pool c.vpci c.vci ≡ false
+  pub held_by_none : (i : ℕ) (c : Call) (q : State) → HasCall t i c q → permanent t.pool c.pair.vpci c.pair.vci ≡ false
   pub pool_stays : (e : Event) → (happens t e).answer.table.pool ≡ t.pool

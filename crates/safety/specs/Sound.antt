@@ -8,9 +8,9 @@
 -- Assumes nothing.
 use Rattle.std.specs.Prelude.{ℕ, ◌+◌, ◌≤◌, ◌<◌, ◌≡◌, ◌≢◌, Bool, true, false, List, [], ◌∷◌, get_or}
 use Rattle.traffic.specs.Traffic.{member}
-use Rattle.channels.specs.declared.Named.TheVariants.{All, Pair}
+use Rattle.channels.specs.declared.Named.TheVariants.{All, One}
 use Rattle.channels.specs.declared.Pool.{Pool}
-use Rattle.channels.specs.Channels.{permitted}
+use Rattle.channels.specs.Channels.{pair, permitted}
 use Rattle.pairs.specs.Pairs.{in_pairs, Tidy}
 use Rattle.calls.specs.declared.Clearing.{Clearing}
 use Rattle.calls.specs.declared.State.{State}
@@ -39,11 +39,11 @@ pub data StateSound (last : ℕ) : Bool → State → Type 0 where
 
 pub record CallSound (t : Table) (c : Call) (q : State) : Type 0 where
   -- "A pair is permitted if it is in a range and not permanent."
-  pub pair_permitted : permitted t.pool c.vpci c.vci ≡ true
+  pub pair_permitted : permitted t.pool c.pair.vpci c.pair.vci ≡ true
   -- "VPCI 0 to 255; VCI 32 to 65535"
-  pub vpci_high : c.vpci ≤ 255
-  pub vci_low : 32 ≤ c.vci
-  pub vci_high : c.vci ≤ 65535
+  pub vpci_high : c.pair.vpci ≤ 255
+  pub vci_low : 32 ≤ c.pair.vci
+  pub vci_high : c.pair.vci ≤ 65535
   -- "Value 0 is global."
   pub not_global : c.reference ≢ 0
   pub state_sound : StateSound t.last c.network q
@@ -52,7 +52,7 @@ pub record CallSound (t : Table) (c : Call) (q : State) : Type 0 where
 pub data GlobalSound (last : ℕ) (pool : Pool) : GlobalState → Type 0 where
   none_sent : GlobalSound last pool Null
   one_sent : (p v : ℕ) (second : Bool) (deadline : ℕ) → permitted pool p v ≡ true → deadline ≤ last + t316
-      → GlobalSound last pool (RestartRequest (Pair p v) second deadline)
+      → GlobalSound last pool (RestartRequest (One (pair p v)) second deadline)
   all_sent : (second : Bool) (deadline : ℕ) → deadline ≤ last + t316 → GlobalSound last pool (RestartRequest All second deadline)
 
 pub record Sound (t : Table) : Type 0 where
@@ -62,7 +62,7 @@ pub record Sound (t : Table) : Type 0 where
   pub numbers : (p v : ℕ) → permitted t.pool p v ≡ true → (p ≤ 255) × (32 ≤ v) × (v ≤ 65535)
   pub calls_sound : (i : ℕ) (c : Call) (q : State) → HasCall t i c q → CallSound t c q
   -- "No two live calls hold one VPCI/VCI pair"
-  pub pair_once : (i j : ℕ) (c d : Call) (q r : State) → HasCall t i c q → HasCall t j d r → c.vpci ≡ d.vpci → c.vci ≡ d.vci → i ≡ j
+  pub pair_once : (i j : ℕ) (c d : Call) (q r : State) → HasCall t i c q → HasCall t j d r → c.pair.vpci ≡ d.pair.vpci → c.pair.vci ≡ d.pair.vci → i ≡ j
   -- document 02, R-2: "At most 64 pairs are in doubt", ascending; each is permitted, and no live call holds it
   pub doubts_tidy : Tidy t.doubts
   pub doubt_permitted : (p v : ℕ) → InDoubt t p v → permitted t.pool p v ≡ true

@@ -10,7 +10,7 @@ use Rattle.pairs.specs.Pairs.{listed}
 use Rattle.service.specs.declared.OutOfService.{OutOfService}
 use Rattle.calls.specs.declared.Slot.{Slot}
 use Rattle.table.specs.declared.Table.{Table}
-use Rattle.fields.specs.Fields.{four, eight, field, range_octets, entry_octets, hold_field, request_octets}
+use Rattle.fields.specs.Fields.{four, eight, field, range_octets, channel_octets, hold_field, request_octets}
 
 -- four ranges, eight permanent pairs, 64 pairs in doubt, 64 out of service, the RESTART of one pair, 32 calls in N12
 abbrev pub longest : ℕ
@@ -34,7 +34,7 @@ out_octets o = cond o.all 1 0 ∷ joined four (listed o.pairs)
 abbrev pub form_of : Table → List ℕ
 form_of t =
     field 1 (joined range_octets t.pool.ranges)
-    ++ (field 2 (joined entry_octets t.pool.permanents)
+    ++ (field 2 (joined channel_octets t.pool.permanents)
     ++ (field 3 (eight t.last)
     ++ (field 5 (joined four (listed t.doubts))
     ++ (field 6 (out_octets t.out) ++ (field 7 (request_octets t.global.state) ++ call_fields 0 t.slots.all)))))

@@ -3,6 +3,7 @@
 --   Sparse        a test that no range passes at all its marks
 --   sparse        the pairs that can be there are fewer than the marks of a range
 -- Over lists of any length. Assumes nothing.
+use Rattle.std.specs.Prelude.{Option, Some, None}
 use Prim.Native.Nat.{ℕ, zero, suc, ◌+◌, ◌/◌, ◌%◌, ◌≤◌, ◌<◌}
 use mathlib.Core.Path.{◌≡◌, refl}
 use mathlib.Core.Bool.{Bool, true, false, ◌&&◌, ◌||◌}
@@ -11,11 +12,9 @@ use native.Mathlib.Omega.{arith}
 use lib.Dec.{eqb}
 use lib.ListN.{length}
 use borrow.Author.Tests.{eqb-true, ne_eqb}
-use Rattle.channels.specs.Some.{some_of}
-use Rattle.channels.specs.Channels.{permanent_count, is_pair, is_entry, among}
-use Rattle.channels.specs.declared.Channel.{Channel}
-use Rattle.channels.specs.declared.Channel.TheVariants.{None, Pair}
-use Rattle.channels.specs.declared.Entry.{Entry}
+use Rattle.std.specs.List.{list_any}
+use Rattle.channels.specs.Channels.{permanent_count, is_pair, among}
+use Rattle.channels.specs.declared.Pair.{Pair}
 use Rattle.channels.proofs.Cases.{by_test}
 use Rattle.pairs.specs.Pairs.{room, is_number, listed, in_pairs}
 use Rattle.pairs.specs.declared.Pairs.{Pairs}
@@ -82,12 +81,12 @@ hits_same : (a : Bool) (u n v : ℕ) → hits (λ w. a && eqb u w) n v ≤ 1
 hits_same true u n v = hits_once u n v
 hits_same false u n v = hits_no n v
 
-hits_some : {A : Type 0} (t : ℕ → A → Bool) (n v : ℕ) → ((x : A) → hits (λ w. t w x) n v ≤ 1) → (xs : List A) → hits (λ w. some_of (t w) xs) n v ≤ length xs
+hits_some : {A : Type 0} (t : ℕ → A → Bool) (n v : ℕ) → ((x : A) → hits (λ w. t w x) n v ≤ 1) → (xs : List A) → hits (λ w. list_any (t w) xs) n v ≤ length xs
 hits_some t n v each [] = let none = hits_none (λ w. false) n v (λ w k. refl) in omega arith
 hits_some t n v each (x ∷ xs) =
     let first = each x in
     let rest = hits_some t n v each xs in
-    let sum = hits_either (λ w. t w x) (λ w. some_of (t w) xs) n v in
+    let sum = hits_either (λ w. t w x) (λ w. list_any (t w) xs) n v in
     omega arith
 
 -- not each of a run of VCIs with marks passes
@@ -95,15 +94,15 @@ abbrev pub Sparse : (ℕ → ℕ → Bool) → Type 0
 Sparse t = (p v : ℕ) → ((w : ℕ) → v ≤ w → w < v + near → t p w ≡ true) → ⊥
 
 module _ (p n v : ℕ) where
-  hits_channel : (c : Channel) → hits (λ w. is_pair p w c) n v ≤ 1
+  hits_channel : (c : Option Pair) → hits (λ w. is_pair p w c) n v ≤ 1
   hits_channel None = hits_no n v
-  hits_channel (Pair q u) = hits_same (eqb q p) u n v
+  hits_channel (Some qu) = hits_same (eqb qu.vpci p) qu.vci n v
 
   hits_hold : (h : Hold) → hits (λ w. pair_held p w h) n v ≤ 1
   hits_hold Empty = hits_no n v
-  hits_hold (Live c q) = hits_same (eqb c.vpci p) c.vci n v
+  hits_hold (Live c q) = hits_same (eqb c.pair.vpci p) c.pair.vci n v
 
-  pub crowd : (ss : List Slot) (ds : Pairs) (out : OutOfService) (g : GlobalState) (es : List Entry)
+  pub crowd : (ss : List Slot) (ds : Pairs) (out : OutOfService) (g : GlobalState) (es : List (Option Pair))
       → length ss + (length (listed ds) + (length (listed out.pairs) + (1 + length es))) < n
       → ((w : ℕ) → v ≤ w → w < v + n → taken_singly ss ds out g es p w ≡ true) → ⊥
   crowd ss ds out g es few all =
@@ -112,16 +111,16 @@ module _ (p n v : ℕ) where
       let doubts = hits_some (λ w. is_number p w) n v number (listed ds) in
       let marks = hits_some (λ w. is_number p w) n v number (listed out.pairs) in
       let request = hits_channel (one_pair g) in
-      let permanents = hits_some (λ w. is_entry p w) n v (λ e. hits_channel e.channel) es in
+      let permanents = hits_some (λ w. is_pair p w) n v (λ e. hits_channel e) es in
       let two = hits_either (λ w. is_pair p w (one_pair g)) (λ w. among p w es) n v in
       let three = hits_either (λ w. in_pairs out.pairs p w) (λ w. is_pair p w (one_pair g) || among p w es) n v in
       let four = hits_either (λ w. in_pairs ds p w) (λ w. in_pairs out.pairs p w || (is_pair p w (one_pair g) || among p w es)) n v in
-      let five = hits_either (λ w. some_of (holds_pair p w) ss) (λ w. in_pairs ds p w || (in_pairs out.pairs p w || (is_pair p w (one_pair g) || among p w es))) n v in
+      let five = hits_either (λ w. list_any (holds_pair p w) ss) (λ w. in_pairs ds p w || (in_pairs out.pairs p w || (is_pair p w (one_pair g) || among p w es))) n v in
       let full = hits_all (taken_singly ss ds out g es p) n v all in
       omega arith
 
 -- the arrays are as long as they are, so that there are fewer pairs than a range has marks
-pub sparse : (ss : List Slot) (ds : Pairs) (out : OutOfService) (g : GlobalState) (es : List Entry) → length ss ≡ slot_count → length ds.numbers ≡ room
+pub sparse : (ss : List Slot) (ds : Pairs) (out : OutOfService) (g : GlobalState) (es : List (Option Pair)) → length ss ≡ slot_count → length ds.numbers ≡ room
     → length out.pairs.numbers ≡ room → length es ≡ permanent_count → Sparse (taken_singly ss ds out g es)
 sparse ss ds out g es s d o e p v =
     let first = span-size ds d in

@@ -6,15 +6,14 @@
 --   none_free           if none is found, no permitted pair is free
 --   none_left           and the other way round
 -- Over lists of any length. Assumes nothing.
+use Rattle.std.specs.Prelude.{Option, Some, None}
 use Prim.Native.Nat.{ℕ}
 use mathlib.Core.Path.{◌≡◌, refl}
 use mathlib.Core.Bool.{Bool, true, false, ◌||◌, or-true, or-false}
 use mathlib.Core.List.{List}
-use Rattle.channels.specs.Some.{some_of}
-use Rattle.channels.specs.Channels.{lowest, in_ranges, permanent, permitted, is_pair}
-use Rattle.channels.specs.declared.Channel.{Channel}
-use Rattle.channels.specs.declared.Channel.TheVariants.{None, Pair}
-use Rattle.channels.specs.declared.Entry.{Entry}
+use Rattle.std.specs.List.{list_any}
+use Rattle.channels.specs.Channels.{pair, lowest, in_ranges, permanent, permitted, is_pair}
+use Rattle.channels.specs.declared.Pair.{Pair}
 use Rattle.channels.specs.declared.Named.TheVariants as named
 use Rattle.channels.specs.declared.Pool.{Pool}
 use Rattle.channels.proofs.Cases.{by_test, clash}
@@ -37,27 +36,27 @@ neither false b e = (refl, e)
 one_named : (g : GlobalState) (p v : ℕ) → names_all g ≡ false → is_pair p v (one_pair g) ≡ under_restart g p v
 one_named Null p v e = refl
 one_named (RestartRequest named.All s d) p v e = clash refl e
-one_named (RestartRequest (named.Pair q w) s d) p v e = refl
+one_named (RestartRequest (named.One qw) s d) p v e = refl
 
 all_named : (g : GlobalState) (p v : ℕ) → names_all g ≡ true → under_restart g p v ≡ true
 all_named Null p v e = clash e refl
 all_named (RestartRequest named.All s d) p v e = refl
-all_named (RestartRequest (named.Pair q w) s d) p v e = clash e refl
+all_named (RestartRequest (named.One qw) s d) p v e = clash e refl
 
-module _ (ss : List Slot) (ds : Pairs) (out : OutOfService) (g : GlobalState) (es : List Entry) where
+module _ (ss : List Slot) (ds : Pairs) (out : OutOfService) (g : GlobalState) (es : List (Option Pair)) where
   pub singly : is_all_taken out g ≡ false → (p v : ℕ) → taken_singly ss ds out g es p v ≡ taken ss ds out g es p v
   singly e p v = let n = neither out.all (names_all g) e in rw (n.0, one_named g p v n.1)
 
   pub all_taken : is_all_taken out g ≡ true → (p v : ℕ) → taken ss ds out g es p v ≡ true
   all_taken e p v =
       by_test out.all
-      (λ a. rw (a, or-true (in_pairs ds p v), or-true (some_of (holds_pair p v) ss)))
+      (λ a. rw (a, or-true (in_pairs ds p v), or-true (list_any (holds_pair p v) ss)))
       (λ a.
-      rw (all_named g p v (rw a at e), or-true (is_out out p v), or-true (in_pairs ds p v), or-true (some_of (holds_pair p v) ss)))
+      rw (all_named g p v (rw a at e), or-true (is_out out p v), or-true (in_pairs ds p v), or-true (list_any (holds_pair p v) ss)))
 
 -- held, in doubt, out of service, named by our RESTART
 abbrev pub unfree : List Slot → Pairs → OutOfService → GlobalState → ℕ → ℕ → Bool
-unfree ss ds out g p v = some_of (holds_pair p v) ss || (in_pairs ds p v || (is_out out p v || under_restart g p v))
+unfree ss ds out g p v = list_any (holds_pair p v) ss || (in_pairs ds p v || (is_out out p v || under_restart g p v))
 
 last_of : (a b c d e : Bool) → (a || (b || (c || (d || e)))) ≡ ((a || (b || (c || d))) || e)
 last_of true b c d e = refl
@@ -66,23 +65,23 @@ last_of false false true d e = refl
 last_of false false false d e = refl
 
 module _ (ss : List Slot) (ds : Pairs) (out : OutOfService) (g : GlobalState) (pool : Pool) where
-  abbrev lowest_free : Channel
+  abbrev lowest_free : Option Pair
   lowest_free = lowest (taken ss ds out g pool.permanents) pool.ranges
 
   taken_is : (p v : ℕ) → taken ss ds out g pool.permanents p v ≡ (unfree ss ds out g p v || permanent pool p v)
-  taken_is p v = last_of (some_of (holds_pair p v) ss) (in_pairs ds p v) (is_out out p v) (under_restart g p v) (permanent pool p v)
+  taken_is p v = last_of (list_any (holds_pair p v) ss) (in_pairs ds p v) (is_out out p v) (under_restart g p v) (permanent pool p v)
 
   pub record Free (p v : ℕ) : Type 0 where
     pub permits : permitted pool p v ≡ true
-    pub not_held : some_of (holds_pair p v) ss ≡ false
+    pub not_held : list_any (holds_pair p v) ss ≡ false
     pub not_doubtful : in_pairs ds p v ≡ false
     pub not_out : is_out out p v ≡ false
     pub not_named : under_restart g p v ≡ false
 
-  pub free_permitted : (p v : ℕ) → lowest_free ≡ Pair p v → Free p v
+  pub free_permitted : (p v : ℕ) → lowest_free ≡ Some (pair p v) → Free p v
   free_permitted p v e =
       let l = lowest_free_lem (taken ss ds out g pool.permanents) pool.ranges p v e in
-      let a = neither (some_of (holds_pair p v) ss) _ l.1 in
+      let a = neither (list_any (holds_pair p v) ss) _ l.1 in
       let b = neither (in_pairs ds p v) _ a.1 in
       let c = neither (is_out out p v) _ b.1 in
       let d = neither (under_restart g p v) (permanent pool p v) c.1 in

@@ -15,7 +15,7 @@ use native.Mathlib.Numerals.{add-one}
 use lib.Dec.{eqb}
 use lib.ListN.{length, take, get_or}
 use lib.Seq.{take-suc, take_all, length-take-le}
-use Rattle.channels.specs.Some.{some_of}
+use Rattle.std.specs.List.{list_any}
 use Rattle.channels.specs.declared.Range.{Range}
 use Rattle.channels.proofs.Cases.{by_test}
 use Rattle.search.specs.Search.{how_many}
@@ -35,15 +35,15 @@ module _ {A : Type 0} (p : A → Bool) where
   many_append [] ys = omega arith
   many_append (x ∷ xs) ys = let rest = many_append xs ys in omega arith
 
-  some_append : (xs ys : List A) → some_of p (xs ++ ys) ≡ (some_of p xs || some_of p ys)
+  some_append : (xs ys : List A) → list_any p (xs ++ ys) ≡ (list_any p xs || list_any p ys)
   some_append [] ys = refl
-  some_append (x ∷ xs) ys = rw (some_append xs ys) (sym (or_assoc (p x) (some_of p xs) (some_of p ys)))
+  some_append (x ∷ xs) ys = rw (some_append xs ys) (sym (or_assoc (p x) (list_any p xs) (list_any p ys)))
 
   module _ (xs : List A) (i : ℕ) (d : A) (h : i < length xs) where
     many_next : how_many p (take (i + 1) xs) ≡ how_many p (take i xs) + cond (p (get_or xs i d)) 1 0
     many_next = rw (add-one i, take-suc xs i d h, many_append (take i xs) (get_or xs i d ∷ [])) (omega arith)
 
-    some_next : some_of p (take (i + 1) xs) ≡ (some_of p (take i xs) || p (get_or xs i d))
+    some_next : list_any p (take (i + 1) xs) ≡ (list_any p (take i xs) || p (get_or xs i d))
     some_next = rw (add-one i, take-suc xs i d h, some_append (take i xs) (get_or xs i d ∷ []), or-false (p (get_or xs i d)))
 
 module _ {A : Type 0} (has : A → Bool) (at : ℕ → ℕ → A → Bool) (rs : List Range) (n : ℕ) (xs : List A) (old : List Bool) (before : ℕ) where
@@ -52,7 +52,7 @@ module _ {A : Type 0} (has : A → Bool) (at : ℕ → ℕ → A → Bool) (rs :
     pub full : length old ≡ all_marks
     pub few : before ≤ near
     pub count : reads ≡ before + how_many has (take i xs)
-    pub marks : Added rs n (λ p v. some_of (at p v) (take i xs)) old on
+    pub marks : Added rs n (λ p v. list_any (at p v) (take i xs)) old on
 
   pub passed_none : length old ≡ all_marks → before ≤ near → Passed 0 old before
   passed_none full few = record { within = zero-le; full = full; few = few; count = omega arith; marks = added_none rs n old }
@@ -80,8 +80,8 @@ module _ {A : Type 0} (has : A → Bool) (at : ℕ → ℕ → A → Bool) (rs :
           few = c.few;
           count = omega arith;
           marks =
-              added_same rs n (λ p v. some_of (at p v) (take i xs)) (λ p v. some_of (at p v) (take (i + 1) xs)) old on
-              (λ p v. sym (some_next (at p v) xs i d h ∙ rw (away p v) (or-false (some_of (at p v) (take i xs))))) c.marks;
+              added_same rs n (λ p v. list_any (at p v) (take i xs)) (λ p v. list_any (at p v) (take (i + 1) xs)) old on
+              (λ p v. sym (some_next (at p v) xs i d h ∙ rw (away p v) (or-false (list_any (at p v) (take i xs))))) c.marks;
         }
 
     pub passed_on : (d : A) (q w : ℕ) (new : List Bool) (after : ℕ) → i < length xs → has (get_or xs i d) ≡ true
@@ -96,10 +96,10 @@ module _ {A : Type 0} (has : A → Bool) (at : ℕ → ℕ → A → Bool) (rs :
           few = c.few;
           count = omega arith;
           marks =
-              added_same rs n (λ p v. some_of (at p v) (take i xs) || (eqb q p && eqb w v)) (λ p v. some_of (at p v) (take (i + 1) xs)) old new
+              added_same rs n (λ p v. list_any (at p v) (take i xs) || (eqb q p && eqb w v)) (λ p v. list_any (at p v) (take (i + 1) xs)) old new
               (λ p v. sym (some_next (at p v) xs i d h ∙ rw (is p v)))
-              (added_then rs n (λ p v. some_of (at p v) (take i xs)) (λ p v. eqb q p && eqb w v) old on new c.marks add);
+              (added_then rs n (λ p v. list_any (at p v) (take i xs)) (λ p v. eqb q p && eqb w v) old on new c.marks add);
         }
 
-    pub passed_end : length xs ≤ i → Passed i on reads → (reads ≡ before + how_many has xs) × Added rs n (λ p v. some_of (at p v) xs) old on
+    pub passed_end : length xs ≤ i → Passed i on reads → (reads ≡ before + how_many has xs) × Added rs n (λ p v. list_any (at p v) xs) old on
     passed_end h c = let all = take_all i xs h in (rw all at c.count, rw all at c.marks)

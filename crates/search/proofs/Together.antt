@@ -4,6 +4,7 @@
 --   together        all of them
 --   size_most, there_most      how many pairs a list has at most, and a channel
 -- Over lists of any length. Assumes nothing.
+use Rattle.std.specs.Prelude.{Option, Some, None}
 use Prim.Native.Nat.{ℕ, ◌+◌, ◌≤◌}
 use mathlib.Core.Path.{◌≡◌, refl}
 use mathlib.Core.Bool.{Bool, true, false, ◌||◌}
@@ -11,11 +12,9 @@ use mathlib.Core.List.{List}
 use native.Mathlib.Omega.{arith}
 use lib.Dec.{ltb}
 use borrow.Author.Tests.{ltb-true}
-use Rattle.channels.specs.Some.{some_of}
+use Rattle.std.specs.List.{list_any}
 use Rattle.channels.specs.Channels.{is_pair, among}
-use Rattle.channels.specs.declared.Channel.{Channel}
-use Rattle.channels.specs.declared.Channel.TheVariants.{None, Pair}
-use Rattle.channels.specs.declared.Entry.{Entry}
+use Rattle.channels.specs.declared.Pair.{Pair}
 use Rattle.channels.specs.declared.Range.{Range}
 use Rattle.channels.proofs.Cases.{by_test}
 use Rattle.pairs.specs.Pairs.{room, in_pairs, size}
@@ -53,21 +52,21 @@ in_order false false false true false = refl
 in_order false false false false true = refl
 in_order false false false false false = refl
 
-module _ (ss : List Slot) (ds : Pairs) (out : OutOfService) (g : GlobalState) (es : List Entry) (rs : List Range) (n : ℕ) where
+module _ (ss : List Slot) (ds : Pairs) (out : OutOfService) (g : GlobalState) (es : List (Option Pair)) (rs : List Range) (n : ℕ) where
   pub together : {old new : List Bool} {start end : ℕ} → start ≡ 0
-      → Read rs n (λ p v. (((some_of (holds_pair p v) ss || among p v es) || is_pair p v (one_pair g)) || in_pairs ds p v) || in_pairs out.pairs p v)
+      → Read rs n (λ p v. (((list_any (holds_pair p v) ss || among p v es) || is_pair p v (one_pair g)) || in_pairs ds p v) || in_pairs out.pairs p v)
       ((((how_many is_live ss + how_many has_pair es) + there (one_pair g)) + size ds) + size out.pairs) old new start end
       → (end ≡ pairs_there ss ds out g es) × Added rs n (taken_singly ss ds out g es) old new
   together {old} {new} none r =
       let count = r.count in (
         omega arith,
         added_same rs n _ (taken_singly ss ds out g es) old new
-            (λ p v. in_order (some_of (holds_pair p v) ss) (in_pairs ds p v) (in_pairs out.pairs p v) (is_pair p v (one_pair g)) (among p v es)) r.marks,
+            (λ p v. in_order (list_any (holds_pair p v) ss) (in_pairs ds p v) (in_pairs out.pairs p v) (is_pair p v (one_pair g)) (among p v es)) r.marks,
       )
 
 pub size_most : (ps : Pairs) → size ps ≤ room
 size_most ps = by_test (ltb ps.count room) (λ t. let k = ltb-true ps.count room t in rw t (omega arith)) (λ t. rw t (omega arith))
 
-pub there_most : (c : Channel) → there c ≤ 1
+pub there_most : (c : Option Pair) → there c ≤ 1
 there_most None = omega arith
-there_most (Pair p v) = omega arith
+there_most (Some pv) = omega arith

@@ -3,6 +3,7 @@
 --   used-none                   the ranges behind them have no pair
 --   used-spanning               there are none exactly if no range has a VCI
 -- Over lists of any length. Assumes nothing.
+use Rattle.std.specs.Prelude.{None}
 use Prim.Native.Nat.{ℕ, suc, ◌+◌, ◌-◌, ◌≤◌, ◌<◌}
 use mathlib.Core.Path.{◌≡◌, refl, ap, ◌∙◌}
 use mathlib.Core.Bool.{Bool, true, false}
@@ -14,7 +15,6 @@ use lib.ListN.{length, take, drop}
 use lib.Seq.{take-suc, length-take-le}
 use borrow.Author.Tests.{eqb-true, eqb-false, ne_eqb, leb-false, le-leb, lt-leb}
 use Rattle.channels.specs.Channels.{lowest}
-use Rattle.channels.specs.declared.Channel.TheVariants.{None}
 use Rattle.channels.specs.declared.Range.{Range}
 use Rattle.channels.proofs.Cases.{by_test}
 use Rattle.search.specs.Search.{spans, spanning}

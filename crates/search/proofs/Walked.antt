@@ -8,6 +8,7 @@
 --   unused_answer, all_answer   what `find_free` gives where no range has a VCI; where all pairs are taken at once
 --   answer                      and elsewhere
 -- Over lists of any length. Assumes nothing.
+use Rattle.std.specs.Prelude.{Option, Some, None}
 use Prim.Native.Nat.{ℕ, zero, suc, ◌+◌, ◌-◌, ◌*◌, ◌≤◌, ◌<◌}
 use mathlib.Core.Path.{◌≡◌, refl, sym, ap, ◌∙◌}
 use mathlib.Core.Logic.{◌≢◌}
@@ -18,9 +19,8 @@ use native.Mathlib.Numerals.{add-one}
 use lib.Dec.{eqb}
 use lib.ListN.{length, drop, get_or, replicate}
 use borrow.Author.Tests.{eqb-true, eqb-false, eq-eqb, ne_eqb}
-use Rattle.channels.specs.Channels.{range_count, scan, lowest}
-use Rattle.channels.specs.declared.Channel.{Channel}
-use Rattle.channels.specs.declared.Channel.TheVariants.{None, Pair}
+use Rattle.channels.specs.Channels.{pair, range_count, scan, lowest}
+use Rattle.channels.specs.declared.Pair.{Pair}
 use Rattle.channels.specs.declared.Range.{Range}
 use Rattle.channels.specs.declared.Pool.{Pool}
 use Rattle.channels.proofs.Cases.{by_test}
@@ -39,8 +39,8 @@ use Rattle.search.proofs.Free.{all_taken, singly}
 use Rattle.search.proofs.Near.{near_within, near-taken, near_passed}
 use Rattle.search.proofs.Used.{used-none, used-spanning}
 
-module _ (t : ℕ → ℕ → Bool) (q : ℕ) (rest : Channel) where
-  scan-first : (n w v : ℕ) → w ≤ v → v < w + n → ((u : ℕ) → w ≤ u → u < v → t q u ≡ true) → t q v ≡ false → scan t q n w rest ≡ Pair q v
+module _ (t : ℕ → ℕ → Bool) (q : ℕ) (rest : Option Pair) where
+  scan-first : (n w v : ℕ) → w ≤ v → v < w + n → ((u : ℕ) → w ≤ u → u < v → t q u ≡ true) → t q v ≡ false → scan t q n w rest ≡ Some (pair q v)
   scan-first zero w v low high all free = absurd (omega arith)
   scan-first (suc n) w v low high all free =
       by_test (eqb w v)
@@ -120,7 +120,7 @@ module _ (ss : List Slot) (ds : Pairs) (out : OutOfService) (g : GlobalState) (p
   pub all_answer : is_all_taken out g ≡ true → ◌≡◌ {A = Finding} (record { found = None; reads = 0 }) (searched ss ds out g pool)
   all_answer e = rw (none-lowest T pool.ranges (λ p v h. all_taken ss ds out g pool.permanents e p v), e, or-true (eqb (spanning pool.ranges) 0))
 
-  pub answer : {c : Channel} {n reads : ℕ} → is_all_taken out g ≡ false → n ≡ used pool.ranges → n ≢ 0
+  pub answer : {c : Option Pair} {n reads : ℕ} → is_all_taken out g ≡ false → n ≡ used pool.ranges → n ≢ 0
       → c ≡ lowest (taken_singly ss ds out g pool.permanents) pool.ranges → reads ≡ pairs_there ss ds out g pool.permanents
       → ◌≡◌ {A = Finding} (record { found = c; reads = reads }) (searched ss ds out g pool)
   answer single e some found count =

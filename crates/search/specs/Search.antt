@@ -7,13 +7,10 @@
 --   searched                the pair that is found, and the count of pairs read to find it
 --   AtMostOnce              what is proved of the count
 -- Lists are of any length. Assumes nothing.
-use Rattle.std.specs.Prelude.{ℕ, ◌+◌, ◌*◌, ◌≤◌, Bool, cond, not, ◌||◌, List, [], ◌∷◌, eqb, leb}
-use Rattle.channels.specs.Some.{some_of}
+use Rattle.std.specs.Prelude.{ℕ, ◌+◌, ◌*◌, ◌≤◌, Bool, cond, not, ◌||◌, List, [], ◌∷◌, eqb, leb, Option, Some, None}
+use Rattle.std.specs.List.{list_any}
 use Rattle.channels.specs.Channels.{is_pair, among, lowest}
-use Rattle.channels.specs.Order.{is_none}
-use Rattle.channels.specs.declared.Channel.{Channel}
-use Rattle.channels.specs.declared.Channel.TheVariants.{None, Pair}
-use Rattle.channels.specs.declared.Entry.{Entry}
+use Rattle.channels.specs.declared.Pair.{Pair}
 use Rattle.channels.specs.declared.Range.{Range}
 use Rattle.channels.specs.declared.Pool.{Pool}
 use Rattle.pairs.specs.Pairs.{in_pairs, size}
@@ -26,29 +23,29 @@ use Rattle.service.specs.declared.OutOfService.{OutOfService}
 use Rattle.search.specs.declared.Finding.{Finding}
 
 -- by itself: a pair that a live call holds, that is in doubt, out of service by a mark of its own, named alone by our RESTART, or permanent
-abbrev pub taken_singly : List Slot → Pairs → OutOfService → GlobalState → List Entry → ℕ → ℕ → Bool
+abbrev pub taken_singly : List Slot → Pairs → OutOfService → GlobalState → List (Option Pair) → ℕ → ℕ → Bool
 taken_singly ss ds out g permanents p v =
-    some_of (holds_pair p v) ss || (in_pairs ds p v || (in_pairs out.pairs p v || (is_pair p v (one_pair g) || among p v permanents)))
+    list_any (holds_pair p v) ss || (in_pairs ds p v || (in_pairs out.pairs p v || (is_pair p v (one_pair g) || among p v permanents)))
 
 -- "Named pairs while T316 runs, and out-of-service pairs, are not free."; "Demand 2's "free" now means neither held nor in doubt" (R-2), of
 -- permitted pairs
-abbrev pub taken : List Slot → Pairs → OutOfService → GlobalState → List Entry → ℕ → ℕ → Bool
+abbrev pub taken : List Slot → Pairs → OutOfService → GlobalState → List (Option Pair) → ℕ → ℕ → Bool
 taken ss ds out g permanents p v =
-    some_of (holds_pair p v) ss || (in_pairs ds p v || (is_out out p v || (under_restart g p v || among p v permanents)))
+    list_any (holds_pair p v) ss || (in_pairs ds p v || (is_out out p v || (under_restart g p v || among p v permanents)))
 
 abbrev pub how_many : {A : Type 0} → (A → Bool) → List A → ℕ
 how_many p [] = 0
 how_many p (x ∷ xs) = cond (p x) 1 0 + how_many p xs
 
 -- "each held, doubtful or permanent pair": those that there are; R-4: those out of service and under RESTART too
-abbrev pub has_pair : Entry → Bool
+abbrev pub has_pair : Option Pair → Bool
 has_pair e = not (is_none e)
 
-abbrev pub there : Channel → ℕ
+abbrev pub there : Option Pair → ℕ
 there None = 0
-there (Pair p v) = 1
+there (Some pv) = 1
 
-abbrev pub pairs_there : List Slot → Pairs → OutOfService → GlobalState → List Entry → ℕ
+abbrev pub pairs_there : List Slot → Pairs → OutOfService → GlobalState → List (Option Pair) → ℕ
 pairs_there ss ds out g permanents = how_many is_live ss + (size ds + (size out.pairs + (there (one_pair g) + how_many has_pair permanents)))
 
 -- a range that is in no use has no VCI

@@ -6,14 +6,11 @@
 --   has_room, with_out              if the pairs that are named can be marked; they are marked too
 --   is_all_taken, one_pair           if no pair at all is free; the one pair that our RESTART names
 -- Assumes nothing.
-use Rattle.std.specs.Prelude.{ℕ, Bool, true, false, cond, not, ◌||◌}
-use Rattle.channels.specs.declared.Channel.{Channel}
-use Rattle.channels.specs.declared.Channel.TheVariants as channel
+use Rattle.std.specs.Prelude.{ℕ, Bool, true, false, cond, not, ◌||◌, Option, Some, None}
+use Rattle.channels.specs.declared.Pair.{Pair}
 use Rattle.channels.specs.declared.Named.{Named}
-use Rattle.channels.specs.declared.Named.TheVariants.{All, Pair}
+use Rattle.channels.specs.declared.Named.TheVariants.{All, One}
 use Rattle.pairs.specs.Pairs.{no_pairs, is_full, in_pairs, with_pair, names}
-use Rattle.calls.specs.declared.Due.{Due}
-use Rattle.calls.specs.declared.Due.TheVariants.{Never, At}
 use Rattle.service.specs.declared.GlobalState.{GlobalState}
 use Rattle.service.specs.declared.GlobalState.TheVariants.{Null, RestartRequest}
 use Rattle.service.specs.declared.OutOfService.{OutOfService}
@@ -27,9 +24,9 @@ abbrev pub global_number : GlobalState → ℕ
 global_number Null = 0
 global_number (RestartRequest n second d) = 61
 
-abbrev pub global_due : GlobalState → Due
-global_due Null = Never
-global_due (RestartRequest n second d) = At d
+abbrev pub global_due : GlobalState → Option ℕ
+global_due Null = None
+global_due (RestartRequest n second d) = Some d
 
 abbrev pub is_waiting : GlobalState → Bool
 is_waiting Null = false
@@ -50,23 +47,23 @@ is_out o p v = o.all || in_pairs o.pairs p v
 -- "with 64 a single pair's second expiry resends again"
 abbrev pub has_room : OutOfService → Named → Bool
 has_room o All = true
-has_room o (Pair p v) = not (is_full o.pairs)
+has_room o (One pv) = not (is_full o.pairs)
 
 -- "marks the named pairs out of service": a pair that is marked already stays so
 abbrev pub with_out : OutOfService → Named → OutOfService
 with_out o All = record { all = true; pairs = o.pairs }
-with_out o (Pair p v) = cond (in_pairs o.pairs p v) o (record { all = o.all; pairs = with_pair o.pairs p v })
+with_out o (One pv) = cond (in_pairs o.pairs pv.vpci pv.vci) o (record { all = o.all; pairs = with_pair o.pairs pv.vpci pv.vci })
 
 abbrev pub names_all : GlobalState → Bool
 names_all Null = false
 names_all (RestartRequest All second d) = true
-names_all (RestartRequest (Pair p v) second d) = false
+names_all (RestartRequest (One pv) second d) = false
 
 -- all pairs are out of service, or a RESTART of all is under way
 abbrev pub is_all_taken : OutOfService → GlobalState → Bool
 is_all_taken o g = o.all || names_all g
 
-abbrev pub one_pair : GlobalState → Channel
-one_pair Null = channel.None
-one_pair (RestartRequest All second d) = channel.None
-one_pair (RestartRequest (Pair p v) second d) = channel.Pair p v
+abbrev pub one_pair : GlobalState → Option Pair
+one_pair Null = None
+one_pair (RestartRequest All second d) = None
+one_pair (RestartRequest (One pv) second d) = Some pv

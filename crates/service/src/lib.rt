@@ -14,7 +14,6 @@
 ghost use Rattle.std.specs.Prelude.{◌≡◌};
 ghost use Rattle.service.specs.Service.{global_number, global_due, is_waiting, none_out, has_room, with_out, is_all_taken};
 
-use calls::Due;
 use channels::Named;
 use pairs::Pairs;
 
@@ -50,22 +49,19 @@ impl GlobalState {
         }
     }
 
-    pub fn due(self) -> Due
+    pub fn due(self) -> Option<u64>
         ensures { result ≡ global_due self }
     {
         match self {
-            GlobalState::Null => Due::Never,
-            GlobalState::RestartRequest(_, _, deadline) => Due::At(deadline),
+            GlobalState::Null => None,
+            GlobalState::RestartRequest(_, _, deadline) => Some(deadline),
         }
     }
 
     pub fn is_waiting(self) -> bool
         ensures { result ≡ is_waiting self }
     {
-        match self {
-            GlobalState::Null => false,
-            GlobalState::RestartRequest(_, _, _) => true,
-        }
+        matches!(self, GlobalState::RestartRequest(_, _, _))
     }
 }
 
@@ -73,10 +69,9 @@ impl OutOfService {
     pub fn none() -> OutOfService
         ensures { result ≡ none_out }
     {
-        let pairs = Pairs::none();
         OutOfService {
             all: false,
-            pairs: pairs,
+            pairs: Pairs::none(),
         }
     }
 
@@ -86,10 +81,7 @@ impl OutOfService {
     {
         match named {
             Named::All => true,
-            Named::Pair(_, _) => {
-                let pairs = self.pairs;
-                !pairs.is_full()
-            }
+            Named::One(_) => !self.pairs.is_full(),
         }
     }
 
@@ -97,21 +89,13 @@ impl OutOfService {
     pub fn with(self, named: Named) -> OutOfService
         ensures { result ≡ with_out self named }
     {
-        let pairs = self.pairs;
         match named {
-            Named::All => OutOfService {
-                all: true,
-                pairs: pairs,
+            Named::All => OutOfService { all: true, ..self },
+            Named::One(pair) if self.pairs.has(pair) => self,
+            Named::One(pair) => OutOfService {
+                pairs: self.pairs.with(pair),
+                ..self
             },
-            Named::Pair(vpci, vci) => {
-                if pairs.has(vpci, vci) {
-                    return self;
-                }
-                OutOfService {
-                    all: self.all,
-                    pairs: pairs.with(vpci, vci),
-                }
-            }
         }
     }
 }
@@ -120,14 +104,5 @@ impl OutOfService {
 pub fn is_all_taken(out: OutOfService, state: GlobalState) -> bool
     ensures { result ≡ is_all_taken out state }
 {
-    if out.all {
-        return true;
-    }
-    match state {
-        GlobalState::Null => false,
-        GlobalState::RestartRequest(named, _, _) => match named {
-            Named::All => true,
-            Named::Pair(_, _) => false,
-        },
-    }
+    out.all || matches!(state, GlobalState::RestartRequest(Named::All, _, _))
 }

@@ -7,10 +7,9 @@
 --   beginning            where in memory the part begins
 --   Inside, Within       it lies within what was lent
 -- Assumes nothing.
-use Rattle.std.specs.Prelude.{ℕ, ◌+◌, ◌-◌, ◌≤◌, Bool, false, ◌&&◌, cond, List, eqb, length}
+use Rattle.header.specs.declared.Header.{Header}
+use Rattle.std.specs.Prelude.{ℕ, ◌+◌, ◌-◌, ◌≤◌, Bool, false, ◌&&◌, cond, List, eqb, length, Option, Some, None}
 use Rattle.octets.specs.Octets.{part}
-use Rattle.header.specs.declared.Head.{Head}
-use Rattle.header.specs.declared.Head.TheVariants.{Ignored, Is}
 use Rattle.header.specs.Header.{head_of}
 use Rattle.items.specs.declared.Item.{Item}
 use Rattle.items.specs.declared.Item.TheVariants.{End, Overrun, Whole}
@@ -22,9 +21,9 @@ use Rattle.shown.specs.declared.Extent.TheVariants.{Message, Record}
 use Rattle.shown.specs.Calling.{calling_fits, address_at, allowed}
 
 -- "Where the message lent is a SETUP that passes steps 1, 2 and 5"
-abbrev pub passes : Head → Bool
-passes Ignored = false
-passes (Is h) = h.whole && eqb h.kind 0x05
+abbrev pub passes : Option Header → Bool
+passes None = false
+passes (Some h) = h.whole && eqb h.kind 0x05
 
 -- the address of readable contents `c`, which begin at place `start` of the message and end at its place `end`.
 -- "Any presentation but allowed shows the empty part of the message where the address begins."

@@ -13,7 +13,7 @@ use native.Mathlib.Omega.{arith}
 use native.Mathlib.Numerals.{add-one}
 use lib.ListN.{length, take, drop, get_or, set, drop_of_length-le}
 use lib.Seq.{take_all}
-use Rattle.channels.specs.Some.{some_of}
+use Rattle.std.specs.List.{list_any}
 use Rattle.slots.specs.Slots.{is_set}
 
 module _ {A B : Type 0} (f : A → B) where
@@ -34,6 +34,6 @@ module _ {A B : Type 0} (f : A → B) where
   pub mapped_all : (xs : List A) (ys : List B) (i : ℕ) → length xs ≤ i → length ys ≤ i → mapped xs ys i ≡ map f xs
   mapped_all xs ys i h k = rw (take_all i xs h, drop_of_length-le ys {i = i} k) (append-nil (map f xs))
 
-pub some_set : {A : Type 0} (p : A → Bool) (xs : List A) → some_of is_set (map p xs) ≡ some_of p xs
+pub some_set : {A : Type 0} (p : A → Bool) (xs : List A) → list_any is_set (map p xs) ≡ list_any p xs
 some_set p [] = refl
 some_set p (x ∷ xs) = ap (λ (b : Bool). p x || b) (some_set p xs)

@@ -12,7 +12,7 @@ use native.Mathlib.Omega.{arith}
 use lib.Dec.{ltb}
 use lib.ListN.{length}
 use borrow.Author.Tests.{ltb-true, ltb-false}
-use Rattle.channels.specs.Some.{some_of}
+use Rattle.std.specs.List.{list_any}
 use Rattle.channels.proofs.Cases.{by_test, clash}
 use Rattle.calls.specs.declared.Slot.{Slot}
 use Rattle.calls.specs.Calls.{is_call}
@@ -40,11 +40,11 @@ abbrev without : {A : Type 0} → (A → Bool) → List A → List A
 without p [] = []
 without p (x ∷ xs) = cond (p x) xs (x ∷ without p xs)
 
-length_without : {A : Type 0} (p : A → Bool) (xs : List A) → some_of p xs ≡ true → length xs ≡ suc (length (without p xs))
+length_without : {A : Type 0} (p : A → Bool) (xs : List A) → list_any p xs ≡ true → length xs ≡ suc (length (without p xs))
 length_without p [] e = clash e refl
 length_without p (x ∷ xs) e = by_test (p x) (λ t. rw t) (λ t. rw t (ap suc (length_without p xs (rw t at e))))
 
-some_without : {A : Type 0} (p q : A → Bool) (xs : List A) → ((x : A) → p x ≡ true → q x ≡ false) → some_of q xs ≡ some_of q (without p xs)
+some_without : {A : Type 0} (p q : A → Bool) (xs : List A) → ((x : A) → p x ≡ true → q x ≡ false) → list_any q xs ≡ list_any q (without p xs)
 some_without p q [] h = refl
 some_without p q (x ∷ xs) h =
     by_test (p x)

@@ -5,18 +5,14 @@
 --   hold_at, Within                    what a slot holds
 --   in_use, unused_from, unused_reference   network-originated references
 -- Lists of slots are of any length. Assumes nothing.
-use Rattle.std.specs.Prelude.{ℕ, zero, suc, ◌+◌, ◌<◌, Bool, true, cond, List, length, get_or}
-use Rattle.channels.specs.Some.{some_of}
+use Rattle.std.specs.Prelude.{ℕ, zero, suc, ◌+◌, ◌<◌, Bool, true, cond, List, length, get_or, Option, Some, None}
+use Rattle.std.specs.List.{list_any}
 use Rattle.calls.specs.declared.Hold.{Hold}
 use Rattle.calls.specs.declared.Hold.TheVariants.{Empty, Live}
 use Rattle.calls.specs.declared.Slot.{Slot}
 use Rattle.calls.specs.Calls.{no_slot, is_call}
-use Rattle.first.specs.declared.Found.{Found}
-use Rattle.first.specs.declared.Found.TheVariants.{Nothing as NoPlace, At as PlaceAt}
 use Rattle.slots.specs.declared.Slots.{Slots}
 use Rattle.slots.specs.declared.Flags.{Flags}
-use Rattle.slots.specs.declared.Spot.{Spot}
-use Rattle.slots.specs.declared.Spot.TheVariants.{Nothing, At}
 
 -- "The table has the 32 slots of calls"
 abbrev pub slot_count : ℕ
@@ -32,9 +28,9 @@ abbrev pub is_set : Bool → Bool
 is_set b = b
 
 -- the slot at a place
-abbrev pub spot : List Slot → Found → Spot
-spot ss NoPlace = Nothing
-spot ss (PlaceAt i) = At i (get_or ss i no_slot)
+abbrev pub spot : List Slot → Option ℕ → Option (ℕ × Slot)
+spot ss None = None
+spot ss (Some i) = Some (i, get_or ss i no_slot)
 
 -- what a slot holds; one that the table lacks holds nothing
 abbrev pub hold_at : List Slot → ℕ → Hold
@@ -47,7 +43,7 @@ Within i (Live c q) = i < slot_count
 
 -- "lowest network-originated reference value from 1 not in use": of as many as there are slots, and one more
 abbrev pub in_use : ℕ → List Slot → Bool
-in_use r ss = some_of (is_call true r) ss
+in_use r ss = list_any (is_call true r) ss
 
 abbrev pub unused_from : ℕ → ℕ → List Slot → ℕ
 unused_from r zero ss = r

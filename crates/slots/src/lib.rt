@@ -1,10 +1,9 @@
 // Slots: the slots of the table together. Everything goes by value.
 //   SLOTS, Slots                  how many there are, and all of them
-//   Spot                          a slot and its number, or none
-//   Soonest                       the soonest timer of the slots passed, and if another is due
+//   Timer                         the soonest timer of the slots passed, and if another is due
 //   Flags                         one flag for each slot
-//   Slots::find                   the slot of a call
-//   Slots::lowest_empty           the first empty slot
+//   Slots::find                   the slot of a call, with its number
+//   Slots::lowest_empty           the number of the first empty slot
 //   Slots::hold_at, with_slot     what one slot holds, and one slot changed
 //   Slots::soonest                the timer that a tick fires, and if another is due
 //   Slots::is_some_due            if some timer is due
@@ -15,15 +14,14 @@
 #![tactic(auto)]
 
 ghost use Rattle.std.specs.Prelude.{◌≡◌, true, false, map, ◌≤◌, ◌<◌, ◌+◌, set, replicate};
-ghost use Rattle.channels.specs.Some.{some_of};
+ghost use Rattle.std.specs.List.{list_any};
 ghost use Rattle.calls.specs.Calls.{no_slot, is_empty, is_call, is_named, emptied};
 ghost use Rattle.first.specs.First.{place};
 ghost use Rattle.slots.specs.Slots.{slot_count, slots_of, flags_of, spot, hold_at, Within, in_use, unused_reference};
 ghost use Rattle.slots.specs.Timers.{some_due, earlier, considered, soonest};
 
-use calls::{Due, Hold, Slot};
+use calls::{Hold, Slot, is_due};
 use channels::Named;
-use first::Found;
 
 pub const SLOTS: usize = 32;
 
@@ -35,18 +33,12 @@ pub struct Slots {
     pub all: [Slot; SLOTS],
 }
 
-// A slot with its number, or none.
+// The number of a slot whose timer is due, its deadline, and if another slot is due.
 #[derive(Clone, Copy)]
-pub enum Spot {
-    Nothing,
-    At(usize, Slot),
-}
-
-// The number of a slot, its deadline, and if another slot is due; or none is due.
-#[derive(Clone, Copy)]
-pub enum Soonest {
-    Nothing,
-    Timer(usize, u64, bool),
+pub struct Timer {
+    pub slot: usize,
+    pub deadline: u64,
+    pub another: bool,
 }
 
 // One flag for each slot.
@@ -55,35 +47,27 @@ pub struct Flags {
     pub on: [bool; SLOTS],
 }
 
-impl Soonest {
-    // Smallest deadline first, then lowest slot: `i` comes after the slots passed, so it needs a smaller deadline.
-    fn earlier(self, i: usize, deadline: u64) -> Soonest
-        ensures { result ≡ earlier self i deadline }
-    {
-        match self {
-            Soonest::Nothing => Soonest::Timer(i, deadline, false),
-            Soonest::Timer(slot, least, _) => {
-                if deadline < least {
-                    return Soonest::Timer(i, deadline, true);
-                }
-                Soonest::Timer(slot, least, true)
-            }
-        }
+// Smallest deadline first, then lowest slot: `i` comes after the slots passed, so it needs a smaller deadline.
+fn earlier(best: Option<Timer>, i: usize, deadline: u64) -> Option<Timer>
+    ensures { result ≡ earlier best i deadline }
+{
+    match best {
+        Some(least) if least.deadline <= deadline => Some(Timer { another: true, ..least }),
+        _ => Some(Timer {
+            slot: i,
+            deadline,
+            another: best.is_some(),
+        }),
     }
+}
 
-    // The soonest timer that is due, after slot `i` too.
-    fn considering(self, i: usize, due: Due, reading: u64) -> Soonest
-        ensures { result ≡ considered reading self i due }
-    {
-        match due {
-            Due::Never => self,
-            Due::At(deadline) => {
-                if deadline <= reading {
-                    return self.earlier(i, deadline);
-                }
-                self
-            }
-        }
+// The soonest timer that is due, after slot `i` too.
+fn considering(best: Option<Timer>, i: usize, due: Option<u64>, reading: u64) -> Option<Timer>
+    ensures { result ≡ considered reading best i due }
+{
+    match due {
+        Some(deadline) if deadline <= reading => earlier(best, i, deadline),
+        _ => best,
     }
 }
 
@@ -91,8 +75,7 @@ impl Flags {
     pub fn none() -> Flags
         ensures { result ≡ flags_of (replicate slot_count false) }
     {
-        let on = [false; SLOTS];
-        Flags { on: on }
+        Flags { on: [false; SLOTS] }
     }
 
     // The flag of one slot.
@@ -103,7 +86,7 @@ impl Flags {
         if i < SLOTS {
             on[i] = true;
         }
-        Flags { on: on }
+        Flags { on }
     }
 }
 
@@ -111,9 +94,9 @@ impl Slots {
     pub fn fresh() -> Slots
         ensures { result ≡ slots_of (replicate slot_count no_slot) }
     {
-        let slot = Slot::empty();
-        let all = [slot; SLOTS];
-        Slots { all: all }
+        Slots {
+            all: [Slot::empty(); SLOTS],
+        }
     }
 
     // What a slot holds; one that the table lacks holds nothing.
@@ -124,8 +107,7 @@ impl Slots {
         if SLOTS as u64 <= i {
             return Hold::Empty;
         }
-        let slot = self.all[i as usize];
-        slot.hold
+        self.all[i as usize].hold
     }
 
     pub fn with_slot(self, i: usize, slot: Slot) -> Slots
@@ -138,46 +120,36 @@ impl Slots {
         slots
     }
 
-    // The slot of the call with that side and reference.
-    pub fn find(self, network: bool, reference: u32) -> Spot
+    // The slot of the call with that side and reference, and its number.
+    pub fn find(self, network: bool, reference: u32) -> Option<(usize, Slot)>
         ensures { result ≡ spot self.all (place (is_call network reference) self.all) }
     {
-        let mut i: usize = 0;
-        while i < SLOTS {
-            let s = self.all[i];
-            if s.is_call(network, reference) {
-                return Spot::At(i, s);
-            }
-            i += 1;
-        }
-        Spot::Nothing
+        let i = self.place_of(network, reference)?;
+        Some((i, self.all[i]))
     }
 
-    pub fn lowest_empty(self) -> Found
+    // The number of the slot of that call.
+    fn place_of(self, network: bool, reference: u32) -> Option<usize>
+        ensures { result ≡ place (is_call network reference) self.all }
+    {
+        self.all
+            .iter()
+            .position(|slot| slot.is_call(network, reference))
+    }
+
+    pub fn lowest_empty(self) -> Option<usize>
         ensures { result ≡ place is_empty self.all }
     {
-        let mut i: usize = 0;
-        while i < SLOTS {
-            let s = self.all[i];
-            if s.is_empty() {
-                return Found::At(i);
-            }
-            i += 1;
-        }
-        Found::Nothing
+        self.all.iter().position(|slot| slot.is_empty())
     }
 
     // The timer that a tick fires, and if another is due: one look at each slot.
-    pub fn soonest(self, reading: u64) -> Soonest
+    pub fn soonest(self, reading: u64) -> Option<Timer>
         ensures { result ≡ soonest reading self.all }
     {
-        let mut best = Soonest::Nothing;
-        let mut i: usize = 0;
-        while i < SLOTS {
-            let s = self.all[i];
-            let due = s.due();
-            best = best.considering(i, due, reading);
-            i += 1;
+        let mut best = None;
+        for (i, slot) in self.all.iter().enumerate() {
+            best = considering(best, i, slot.due(), reading);
         }
         best
     }
@@ -186,31 +158,14 @@ impl Slots {
     pub fn is_some_due(self, reading: u64) -> bool
         ensures { result ≡ some_due reading self.all }
     {
-        let mut i: usize = 0;
-        while i < SLOTS {
-            let s = self.all[i];
-            let due = s.due();
-            if due.by(reading) {
-                return true;
-            }
-            i += 1;
-        }
-        false
+        self.all.iter().any(|slot| is_due(slot.due(), reading))
     }
 
     // If a live network-originated call has the reference.
     pub fn in_use(self, reference: u32) -> bool
         ensures { result ≡ in_use reference self.all }
     {
-        let mut i: usize = 0;
-        while i < SLOTS {
-            let s = self.all[i];
-            if s.is_call(true, reference) {
-                return true;
-            }
-            i += 1;
-        }
-        false
+        self.all.iter().any(|slot| slot.is_call(true, reference))
     }
 
     // The lowest network-originated reference from 1 that is not in use.
@@ -218,14 +173,12 @@ impl Slots {
         ensures value { result ≡ unused_reference self.all }
         ensures small { (1 ≤ result) × (result ≤ slot_count + 1) }
     {
-        let mut r: u32 = 1;
-        while r < SPARE {
+        for r in 1..SPARE {
             if !self.in_use(r) {
                 return r;
             }
-            r += 1;
         }
-        r
+        SPARE
     }
 
     // The calls on the pairs that are named go.
@@ -233,13 +186,10 @@ impl Slots {
         ensures { result ≡ slots_of (map (emptied (is_named named)) self.all) }
     {
         let mut all = self.all;
-        let mut i: usize = 0;
-        while i < SLOTS {
-            let s = self.all[i];
-            all[i] = s.unless_named(named);
-            i += 1;
+        for (i, slot) in self.all.iter().enumerate() {
+            all[i] = slot.unless_named(named);
         }
-        Slots { all: all }
+        Slots { all }
     }
 
     // The flags of the calls on the pairs that are named.
@@ -247,27 +197,16 @@ impl Slots {
         ensures { result ≡ flags_of (map (is_named named) self.all) }
     {
         let mut on = [false; SLOTS];
-        let mut i: usize = 0;
-        while i < SLOTS {
-            let s = self.all[i];
-            on[i] = s.is_named(named);
-            i += 1;
+        for (i, slot) in self.all.iter().enumerate() {
+            on[i] = slot.is_named(named);
         }
-        Flags { on: on }
+        Flags { on }
     }
 
     // If a call is on a pair that is named.
     pub fn any_named(self, named: Named) -> bool
-        ensures { result ≡ some_of (is_named named) self.all }
+        ensures { result ≡ list_any (is_named named) self.all }
     {
-        let mut i: usize = 0;
-        while i < SLOTS {
-            let s = self.all[i];
-            if s.is_named(named) {
-                return true;
-            }
-            i += 1;
-        }
-        false
+        self.all.iter().any(|slot| slot.is_named(named))
     }
 }

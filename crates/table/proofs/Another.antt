@@ -4,6 +4,7 @@
 --   slot_fired        what a slot's timer does, and if another is due
 --   request_fired     what T316 does, and if another is due
 -- Assumes nothing.
+use Rattle.std.specs.Prelude.{Option, Some, None}
 use Prim.Native.Nat.{ℕ, ◌+◌}
 use mathlib.Core.Path.{◌≡◌, refl, sym, ap, ◌∙◌}
 use mathlib.Core.Bool.{Bool, false, or-false, and-true}
@@ -16,14 +17,11 @@ use Rattle.calls.specs.declared.State.TheVariants.{N3, N6, N9, N10, N12}
 use Rattle.calls.specs.declared.Call.{Call}
 use Rattle.calls.specs.declared.Hold.{Hold}
 use Rattle.calls.specs.declared.Hold.TheVariants.{Empty, Live}
-use Rattle.calls.specs.declared.Due.{Due}
-use Rattle.calls.specs.declared.Due.TheVariants.{Never, At}
 use Rattle.calls.specs.Timers.{t308, hold_due, due_by}
 use Rattle.slots.specs.declared.Slots.{Slots}
-use Rattle.slots.specs.declared.Soonest.{Soonest}
-use Rattle.slots.specs.declared.Soonest.TheVariants as soonest
+use Rattle.slots.specs.declared.Timer.{Timer}
 use Rattle.slots.specs.Slots.{hold_at}
-use Rattle.slots.specs.Timers.{some_due, soonest, place_of}
+use Rattle.slots.specs.Timers.{timer, some_due, soonest, place_of}
 use Rattle.slots.proofs.Timers.{next_due_nothing, another_due, soonest_due}
 use Rattle.service.specs.declared.Global.{Global}
 use Rattle.service.specs.declared.GlobalState.{GlobalState}
@@ -40,10 +38,10 @@ use Rattle.table.specs.declared.Fired.{Fired}
 use Rattle.table.specs.declared.Table.{Table}
 use Rattle.table.specs.Effects.{no_room, fire_hold, fired, request_first, due_after, fired_slot, fired_request}
 
-never : {P : Type 0} (d : ℕ) → Never ≡ At d → P
+never : {P : Type 0} (d : ℕ) → None ≡ Some d → P
 never d e = let z : ◌≡◌ {A = ℕ} 0 1 = cc in absurd (omega arith)
 
-module _ (full : Bool) (reading : ℕ) (ss : Slots) (i d : ℕ) (a : Bool) (found : soonest reading ss.all ≡ soonest.Timer i d a) where
+module _ (full : Bool) (reading : ℕ) (ss : Slots) (i d : ℕ) (a : Bool) (found : soonest reading ss.all ≡ Some (timer i d a)) where
   abbrev Then : Hold → Type 0
   Then h = some_due reading (slots_after (fire_hold full reading i h).change ss).all ≡ a
 
@@ -51,7 +49,7 @@ module _ (full : Bool) (reading : ℕ) (ss : Slots) (i d : ℕ) (a : Bool) (foun
   later : leb (reading + t308) reading ≡ false
   later = lt-leb (reading + t308) reading (omega arith)
 
-  by_state : (c : Call) (q : State) → hold_due (Live c q) ≡ At d → Then (Live c q)
+  by_state : (c : Call) (q : State) → hold_due (Live c q) ≡ Some d → Then (Live c q)
   by_state c N3 e = never d e
   by_state c (N6 x) e = another_due reading ss.all i d a _ found refl
   by_state c (N9 x) e = another_due reading ss.all i d a _ found later
@@ -63,7 +61,7 @@ module _ (full : Bool) (reading : ℕ) (ss : Slots) (i d : ℕ) (a : Bool) (foun
       (λ z. rw (y, z) (another_due reading ss.all i d a _ found refl)))
       (λ n. rw n (another_due reading ss.all i d a _ found later))
 
-  by_hold : (h : Hold) → hold_due h ≡ At d → Then h
+  by_hold : (h : Hold) → hold_due h ≡ Some d → Then h
   by_hold Empty e = never d e
   by_hold (Live c q) e = by_state c q e
 
@@ -81,9 +79,9 @@ fire_global : (full : Bool) (reading i : ℕ) (h : Hold) (g : Global) → global
 fire_global full reading i Empty g = refl
 fire_global full reading i (Live c q) g = fated_global i c (expire full q reading).fate g
 
-none_first : (reading : ℕ) (d : Due) → request_first reading soonest.Nothing d ≡ false → due_by reading d ≡ false
-none_first reading Never e = refl
-none_first reading (At d) e = sym (and-true (leb d reading)) ∙ e
+none_first : (reading : ℕ) (d : Option ℕ) → request_first reading None d ≡ false → due_by reading d ≡ false
+none_first reading None e = refl
+none_first reading (Some d) e = sym (and-true (leb d reading)) ∙ e
 
 module _ (t : Table) (reading : ℕ) where
   pub request_after : due_by reading (global_due (global_after (expire_effect t.global.state t.out reading).change t.global).state) ≡ false
@@ -110,15 +108,15 @@ module _ (t : Table) (reading : ℕ) where
         more = rw request_after (sym (or-false (some_due reading (slots_after (expire_effect t.global.state t.out reading).change t.slots).all)));
       }
 
-  pub slot_fired : (s : Soonest) → soonest reading t.slots.all ≡ s → request_first reading s (global_due t.global.state) ≡ false
+  pub slot_fired : (s : Option Timer) → soonest reading t.slots.all ≡ s → request_first reading s (global_due t.global.state) ≡ false
       → Fires (fired_slot t reading s) (fired t reading (place_of s))
-  slot_fired soonest.Nothing e first =
+  slot_fired None e first =
       record {
         effect = refl;
         more = rw (next_due_nothing reading t.slots.all (ap place_of e), none_first reading (global_due t.global.state) first);
       }
-  slot_fired (soonest.Timer i d a) e first =
+  slot_fired (Some next) e first =
       record {
         effect = refl;
-        more = rw (fire_global (no_room t) reading i (hold_at t.slots.all i) t.global, another_after (no_room t) reading t.slots i d a e);
+        more = rw (fire_global (no_room t) reading next.slot (hold_at t.slots.all next.slot) t.global, another_after (no_room t) reading t.slots next.slot next.deadline next.another e);
       }

@@ -14,27 +14,21 @@
 --   due_after                           if another timer is due afterwards
 --   fired_slot, fired_request            both together
 -- Assumes nothing.
-use Rattle.std.specs.Prelude.{ℕ, Bool, true, false, not, cond, ◌&&◌, ◌||◌, List, map, eqb, ltb, set}
-use Rattle.channels.specs.declared.Channel.{Channel}
-use Rattle.channels.specs.declared.Channel.TheVariants.{None, Pair}
+use Rattle.std.specs.Prelude.{ℕ, Bool, true, false, not, cond, ◌&&◌, ◌||◌, List, map, eqb, ltb, set, Option, Some, None}
+use Rattle.channels.specs.declared.Pair.{Pair}
 use Rattle.channels.specs.declared.Named.{Named}
-use Rattle.channels.specs.Channels.{lowest}
+use Rattle.channels.specs.Channels.{pair, lowest}
 use Rattle.pairs.specs.Pairs.{is_full, with_pair, unless_named}
 use Rattle.calls.specs.declared.State.TheVariants.{N3}
 use Rattle.calls.specs.declared.Call.{Call}
 use Rattle.calls.specs.declared.Hold.{Hold}
 use Rattle.calls.specs.declared.Hold.TheVariants.{Empty, Live}
 use Rattle.calls.specs.declared.Slot.{Slot}
-use Rattle.calls.specs.declared.Due.{Due}
-use Rattle.calls.specs.declared.Due.TheVariants.{Never, At as DueAt}
 use Rattle.calls.specs.Calls.{is_empty, is_call, is_named, emptied}
 use Rattle.calls.specs.Timers.{due_by}
-use Rattle.first.specs.declared.Found.{Found}
-use Rattle.first.specs.declared.Found.TheVariants.{Nothing, At}
 use Rattle.first.specs.First.{place}
 use Rattle.slots.specs.Slots.{slots_of, hold_at}
-use Rattle.slots.specs.declared.Soonest.{Soonest}
-use Rattle.slots.specs.declared.Soonest.TheVariants as soonest
+use Rattle.slots.specs.declared.Timer.{Timer}
 use Rattle.slots.specs.Timers.{some_due, soonest, next_due}
 use Rattle.service.specs.declared.GlobalState.TheVariants.{RestartRequest}
 use Rattle.service.specs.Service.{global_number, global_due, is_waiting, none_out}
@@ -119,21 +113,21 @@ table_after t reading x = record {
 
 -- "lowest free permitted pair by VPCI and then VCI": the lowest of a range that is neither held by a live call, nor in doubt, nor
 -- out of service, nor named by our RESTART, nor permanent (document 02, R-2 and R-4)
-abbrev pub free_pair : Table → Channel
+abbrev pub free_pair : Table → Option Pair
 free_pair t = lowest (taken t.slots.all t.doubts t.out t.global.state t.pool.permanents) t.pool.ranges
 
 -- "Otherwise: lowest empty slot, lowest free permitted pair .., CALL PROCEEDING with its 5A, state N3, notice 1."
 abbrev pub user_call : ℕ → ℕ → ℕ → Call
-user_call r p v = record { network = false; vpci = p; vci = v; reference = r }
+user_call r p v = record { network = false; pair = pair p v; reference = r }
 
-abbrev pub on_pair : ℕ → ℕ → Channel → Effect
+abbrev pub on_pair : ℕ → ℕ → Option Pair → Effect
 on_pair r i None = replying true r (reply.ReleaseCompleteWith (plain_cause 45))
-on_pair r i (Pair p v) = assigned i (user_call r p v) N3 true (outgoing.Reply (reply.CallProceeding p v))
+on_pair r i (Some pv) = assigned i (user_call r pv.vpci pv.vci) N3 true (outgoing.Reply (reply.CallProceeding pv.vpci pv.vci))
 
 -- "47 no empty slot; 45 no permitted pair free"
-abbrev pub admitted : Table → ℕ → Found → Effect
-admitted t r Nothing = replying true r (reply.ReleaseCompleteWith (plain_cause 47))
-admitted t r (At i) = on_pair r i (free_pair t)
+abbrev pub admitted : Table → ℕ → Option ℕ → Effect
+admitted t r None = replying true r (reply.ReleaseCompleteWith (plain_cause 47))
+admitted t r (Some i) = on_pair r i (free_pair t)
 
 abbrev pub setup_effect : Table → ℕ → Admission → Effect
 setup_effect t r (Refused c) = replying true r (reply.ReleaseCompleteWith c)
@@ -151,9 +145,9 @@ abbrev pub on_hold : List ℕ → Header → ℕ → ℕ → Hold → Effect
 on_hold m h reading i Empty = quiet
 on_hold m h reading i (Live c q) = on_call i c (not h.flag) h.reference (judge m h q reading)
 
-abbrev pub addressed : Table → List ℕ → Header → ℕ → Found → Effect
-addressed t m h reading Nothing = on_no_call t m h
-addressed t m h reading (At i) = on_hold m h reading i (hold_at t.slots.all i)
+abbrev pub addressed : Table → List ℕ → Header → ℕ → Option ℕ → Effect
+addressed t m h reading None = on_no_call t m h
+addressed t m h reading (Some i) = on_hold m h reading i (hold_at t.slots.all i)
 
 -- "Global: .. RESTART with flag 0 goes on."; document 02, R-4: "RESTART ACKNOWLEDGE with flag 1 then goes on to step 5": while one is
 -- outstanding; step 5 for both
@@ -181,18 +175,18 @@ abbrev pub fire_hold : Bool → ℕ → ℕ → Hold → Effect
 fire_hold full reading i Empty = quiet
 fire_hold full reading i (Live c q) = on_call i c (not c.network) c.reference (expire full q reading)
 
-abbrev pub fired : Table → ℕ → Found → Effect
-fired t reading Nothing = quiet
-fired t reading (At i) = fire_hold (no_room t) reading i (hold_at t.slots.all i)
+abbrev pub fired : Table → ℕ → Option ℕ → Effect
+fired t reading None = quiet
+fired t reading (Some i) = fire_hold (no_room t) reading i (hold_at t.slots.all i)
 
 -- document 02, R-4: "In a tick T316 comes after slots of equal deadline."
-abbrev pub sooner : Soonest → ℕ → Bool
-sooner soonest.Nothing d = true
-sooner (soonest.Timer i least another) d = ltb d least
+abbrev pub sooner : Option Timer → ℕ → Bool
+sooner None d = true
+sooner (Some next) d = ltb d next.deadline
 
-abbrev pub request_first : ℕ → Soonest → Due → Bool
-request_first reading s Never = false
-request_first reading s (DueAt d) = due_by reading (DueAt d) && sooner s d
+abbrev pub request_first : ℕ → Option Timer → Option ℕ → Bool
+request_first reading s None = false
+request_first reading s (Some d) = due_by reading (Some d) && sooner s d
 
 abbrev pub tick_effect : Table → ℕ → Effect
 tick_effect t reading =
@@ -205,11 +199,11 @@ abbrev pub due_after : Table → ℕ → Change → Bool
 due_after t reading x = some_due reading (slots_after x t.slots).all || due_by reading (global_due (global_after x t.global).state)
 
 -- what the two kinds of timers do, and if another is due: what the functions beneath `fire` say
-abbrev pub fired_slot : Table → ℕ → Soonest → Fired
-fired_slot t reading soonest.Nothing = record { effect = quiet; more = false }
-fired_slot t reading (soonest.Timer i least another) = record {
-  effect = fire_hold (no_room t) reading i (hold_at t.slots.all i);
-  more = another || due_by reading (global_due t.global.state);
+abbrev pub fired_slot : Table → ℕ → Option Timer → Fired
+fired_slot t reading None = record { effect = quiet; more = false }
+fired_slot t reading (Some next) = record {
+  effect = fire_hold (no_room t) reading next.slot (hold_at t.slots.all next.slot);
+  more = next.another || due_by reading (global_due t.global.state);
 }
 
 abbrev pub fired_request : Table → ℕ → Fired

@@ -7,6 +7,7 @@
 --   or_else_zero, or_else_both     of two refusal numbers one after the other
 --   accepted_host      an accepted clear has a cause of the host
 -- Assumes nothing.
+use Rattle.std.specs.Prelude.{Option, Some, None}
 use Prim.Native.Nat.{ℕ}
 use mathlib.Core.Path.{◌≡◌, refl, sym, ap}
 use mathlib.Core.Bool.{Bool, true, false, not, ◌&&◌, ◌||◌}
@@ -15,11 +16,10 @@ use native.Mathlib.Omega.{arith}
 use lib.Dec.{eqb, ltb}
 use borrow.Author.Tests.{eqb-true, eqb-false, not-true}
 use Rattle.traffic.specs.Traffic.{member}
-use Rattle.channels.specs.declared.Channel.{Channel}
-use Rattle.channels.specs.declared.Channel.TheVariants.{None, Pair}
+use Rattle.channels.specs.declared.Pair.{Pair}
 use Rattle.channels.specs.declared.Named.{Named}
 use Rattle.channels.specs.declared.Named.TheVariants as named
-use Rattle.channels.specs.Channels.{permanent, known_vpci}
+use Rattle.channels.specs.Channels.{pair, permanent, known_vpci}
 use Rattle.channels.proofs.Cases.{by_test, clash, both}
 use Rattle.calls.specs.declared.State.{State}
 use Rattle.calls.specs.declared.State.TheVariants.{N3, N6, N9, N10, N12}
@@ -27,14 +27,10 @@ use Rattle.calls.specs.declared.Call.{Call}
 use Rattle.calls.specs.declared.Hold.{Hold}
 use Rattle.calls.specs.declared.Hold.TheVariants.{Empty, Live}
 use Rattle.calls.specs.Calls.{is_empty, is_call}
-use Rattle.first.specs.declared.Found.{Found}
-use Rattle.first.specs.declared.Found.TheVariants.{Nothing, At}
 use Rattle.first.specs.First.{place}
 use Rattle.slots.specs.Slots.{hold_at, unused_reference}
 use Rattle.slots.specs.Timers.{soonest, next_due}
 use Rattle.header.specs.declared.Header.{Header}
-use Rattle.header.specs.declared.Head.{Head}
-use Rattle.header.specs.declared.Head.TheVariants.{Ignored, Is}
 use Rattle.header.specs.Header.{head_of}
 use Rattle.elements.specs.declared.ConnectionRead.{ConnectionRead}
 use Rattle.elements.specs.declared.ConnectionRead.TheVariants as connection_read
@@ -74,7 +70,7 @@ use Rattle.views.proofs.Verdicts.{by_choice}
 
 -- the event is the message m, with header h, which passed the header checks
 pub data IsMessage (m : List ℕ) (h : Header) : Event → Type 0 where
-  heard : (label reading room : ℕ) → head_of m ≡ Is h → IsMessage m h (message label reading room m)
+  heard : (label reading room : ℕ) → head_of m ≡ Some h → IsMessage m h (message label reading room m)
 
 -- the event is a tick, a connect of slot i, a clear of slot i with a cause, an offer
 pub data IsTick : Event → Type 0 where
@@ -100,7 +96,7 @@ pub data IsPutBack : Event → Type 0 where
 pub record IsSetup (t : Table) (m : List ℕ) (h : Header) (e : Event) : Type 0 where
   pub its_message : IsMessage m h e
   pub not_global : eqb h.reference 0 ≡ false
-  pub unnamed : place (is_call h.flag h.reference) t.slots.all ≡ Nothing
+  pub unnamed : place (is_call h.flag h.reference) t.slots.all ≡ None
   pub setup : eqb h.kind 0x05 ≡ true
   pub user : h.flag ≡ false
   pub whole : h.whole ≡ true
@@ -131,7 +127,7 @@ pub data Declined (c : ConnectionRead) : ℕ → Diagnostic → Type 0 where
 pub data Names (t : Table) (r : RestartRead) (c : ConnectionRead) : Named → Reply → Type 0 where
   all : (k : ℕ) → r ≡ restart_read.Class k → eqb k 0x82 ≡ true → Names t r c named.All reply.RestartAcknowledgeAll
   one : (k p v : ℕ) → r ≡ restart_read.Class k → eqb k 0x82 ≡ false → c ≡ connection_read.Pair p v → known_vpci t.pool p ≡ true
-      → (ltb v 32 || permanent t.pool p v) ≡ false → Names t r c (named.Pair p v) (reply.RestartAcknowledge p v)
+      → (ltb v 32 || permanent t.pool p v) ≡ false → Names t r c (named.One (pair p v)) (reply.RestartAcknowledge p v)
 
 -- a tick fires T316
 abbrev pub T316Fires : Table → Event → Type 0
@@ -149,21 +145,21 @@ pub data Does (t : Table) (e : Event) : Effect → Type 0 where
   global : (m : List ℕ) (h : Header) → IsMessage m h e → Does t e (replying (not h.flag) 0 (global_reply (global_number t.global.state) h))
   -- a SETUP is refused: for its elements, for want of a slot, for want of a pair
   refuses : (m : List ℕ) (h : Header) (c : Cause) → IsSetup t m h e → admission m 9 ≡ Refused c → Does t e (replying true h.reference (reply.ReleaseCompleteWith c))
-  no_slot_lem : (m : List ℕ) (h : Header) → IsSetup t m h e → admission m 9 ≡ Admitted → place is_empty t.slots.all ≡ Nothing
+  no_slot_lem : (m : List ℕ) (h : Header) → IsSetup t m h e → admission m 9 ≡ Admitted → place is_empty t.slots.all ≡ None
       → Does t e (replying true h.reference (reply.ReleaseCompleteWith (plain_cause 47)))
-  no_free : (m : List ℕ) (h : Header) (i : ℕ) → IsSetup t m h e → admission m 9 ≡ Admitted → place is_empty t.slots.all ≡ At i → free_pair t ≡ None
+  no_free : (m : List ℕ) (h : Header) (i : ℕ) → IsSetup t m h e → admission m 9 ≡ Admitted → place is_empty t.slots.all ≡ Some i → free_pair t ≡ None
       → Does t e (replying true h.reference (reply.ReleaseCompleteWith (plain_cause 45)))
   -- a SETUP gets a slot and a pair
-  admits : (m : List ℕ) (h : Header) (i p v : ℕ) → IsSetup t m h e → admission m 9 ≡ Admitted → place is_empty t.slots.all ≡ At i → free_pair t ≡ Pair p v
+  admits : (m : List ℕ) (h : Header) (i p v : ℕ) → IsSetup t m h e → admission m 9 ≡ Admitted → place is_empty t.slots.all ≡ Some i → free_pair t ≡ Some (pair p v)
       → Does t e (assigned i (user_call h.reference p v) N3 true (outgoing.Reply (reply.CallProceeding p v)))
   -- an offer gets a slot, a pair and a reference
-  offers : (i p v : ℕ) → IsOffer e → place is_empty t.slots.all ≡ At i → free_pair t ≡ Pair p v
+  offers : (i p v : ℕ) → IsOffer e → place is_empty t.slots.all ≡ Some i → free_pair t ≡ Some (pair p v)
       → Does t e (offered_on (reading_of e) i (unused_reference t.slots.all) p v)
   -- a message on the live call of slot i
-  judges : (m : List ℕ) (h : Header) (i : ℕ) (c : Call) (q : State) → IsMessage m h e → place (is_call h.flag h.reference) t.slots.all ≡ At i
+  judges : (m : List ℕ) (h : Header) (i : ℕ) (c : Call) (q : State) → IsMessage m h e → place (is_call h.flag h.reference) t.slots.all ≡ Some i
       → HasCall t i c q → Does t e (on_call i c (not h.flag) h.reference (judge m h q (reading_of e)))
   -- the timer of slot i fires
-  fires : (i : ℕ) (c : Call) (q : State) → IsTick e → SlotFires t e → next_due (reading_of e) t.slots.all ≡ At i → HasCall t i c q
+  fires : (i : ℕ) (c : Call) (q : State) → IsTick e → SlotFires t e → next_due (reading_of e) t.slots.all ≡ Some i → HasCall t i c q
       → Does t e (fire_hold (no_room t) (reading_of e) i (Live c q))
   -- the host answers, and ends, the call of slot i
   connects : (i : ℕ) (c : Call) (q : State) → IsConnect i e → HasCall t i c q → q ≡ N3 → Does t e (connected i (Live c q))
@@ -197,7 +193,7 @@ module _ (t : Table) (label reading room : ℕ) (m : List ℕ) where
   abbrev D : Effect → Type 0
   D = Does t e
 
-  module _ (h : Header) (head : head_of m ≡ Is h) where
+  module _ (h : Header) (head : head_of m ≡ Some h) where
     is : IsMessage m h e
     is = heard label reading room head
 
@@ -209,7 +205,7 @@ module _ (t : Table) (label reading room : ℕ) (m : List ℕ) where
           by_choice D (known_vpci t.pool p) _ _
           (λ known. by_choice D (ltb v 32 || permanent t.pool p v) _ _
           (λ bar. declines m h 82 (diagnostic.Pair p v) restart (barred p v f))
-          (λ fair. restarts m h (named.Pair p v) (reply.RestartAcknowledge p v) restart (one k p v g n f known fair)))
+          (λ fair. restarts m h (named.One (pair p v)) (reply.RestartAcknowledge p v) restart (one k p v g n f known fair)))
           (λ unknown. declines m h 100 (diagnostic.Octet 0x5A) restart bad_pair)
 
       restart_does : (r : RestartRead) → restart_in m 9 ≡ r → D (restart_effect (global_number t.global.state) t.pool r (connection_in m 9))
@@ -240,19 +236,19 @@ module _ (t : Table) (label reading room : ℕ) (m : List ℕ) where
         (λ a. global m h is))
 
     module _ (setup : IsSetup t m h e) where
-      on_pair_does : (i : ℕ) (c : Channel) → admission m 9 ≡ Admitted → place is_empty t.slots.all ≡ At i → free_pair t ≡ c → D (on_pair h.reference i c)
+      on_pair_does : (i : ℕ) (c : Option Pair) → admission m 9 ≡ Admitted → place is_empty t.slots.all ≡ Some i → free_pair t ≡ c → D (on_pair h.reference i c)
       on_pair_does i None a f g = no_free m h i setup a f g
-      on_pair_does i (Pair p v) a f g = admits m h i p v setup a f g
+      on_pair_does i (Some (pair p v)) a f g = admits m h i p v setup a f g
 
-      admitted_does : (f : Found) → admission m 9 ≡ Admitted → place is_empty t.slots.all ≡ f → D (admitted t h.reference f)
-      admitted_does Nothing a f = no_slot_lem m h setup a f
-      admitted_does (At i) a f = on_pair_does i (free_pair t) a f refl
+      admitted_does : (f : Option ℕ) → admission m 9 ≡ Admitted → place is_empty t.slots.all ≡ f → D (admitted t h.reference f)
+      admitted_does None a f = no_slot_lem m h setup a f
+      admitted_does (Some i) a f = on_pair_does i (free_pair t) a f refl
 
       setup_does : (a : Admission) → admission m 9 ≡ a → D (setup_effect t h.reference a)
       setup_does (Refused c) a = refuses m h c setup a
       setup_does Admitted a = admitted_does (place is_empty t.slots.all) a refl
 
-    no_call_does : eqb h.reference 0 ≡ false → place (is_call h.flag h.reference) t.slots.all ≡ Nothing → D (on_no_call t m h)
+    no_call_does : eqb h.reference 0 ≡ false → place (is_call h.flag h.reference) t.slots.all ≡ None → D (on_no_call t m h)
     no_call_does z unnamed =
         by_choice D (eqb h.kind 0x05) _ _
         (λ s. by_choice D (not h.flag && h.whole) _ _
@@ -262,17 +258,17 @@ module _ (t : Table) (label reading room : ℕ) (m : List ℕ) where
         (λ n. nothing))
         (λ s. no_call m h is)
 
-    hold_does : (i : ℕ) (k : Hold) → place (is_call h.flag h.reference) t.slots.all ≡ At i → (slot_at t i).hold ≡ k → D (on_hold m h reading i k)
+    hold_does : (i : ℕ) (k : Hold) → place (is_call h.flag h.reference) t.slots.all ≡ Some i → (slot_at t i).hold ≡ k → D (on_hold m h reading i k)
     hold_does i Empty f g = nothing
     hold_does i (Live c q) f g = judges m h i c q is f g
 
-    found_does : eqb h.reference 0 ≡ false → (f : Found) → place (is_call h.flag h.reference) t.slots.all ≡ f → D (addressed t m h reading f)
-    found_does z Nothing f = no_call_does z f
-    found_does z (At i) f = hold_does i (hold_at t.slots.all i) f refl
+    found_does : eqb h.reference 0 ≡ false → (f : Option ℕ) → place (is_call h.flag h.reference) t.slots.all ≡ f → D (addressed t m h reading f)
+    found_does z None f = no_call_does z f
+    found_does z (Some i) f = hold_does i (hold_at t.slots.all i) f refl
 
-  head_does : (x : Head) → head_of m ≡ x → D (heard_by t reading m x)
-  head_does Ignored g = nothing
-  head_does (Is h) g =
+  head_does : (x : Option Header) → head_of m ≡ x → D (heard_by t reading m x)
+  head_does None g = nothing
+  head_does (Some h) g =
       by_choice D (eqb h.reference 0) _ _
       (global_does h g)
       (λ z. found_does h g z (place (is_call h.flag h.reference) t.slots.all) refl)
@@ -282,13 +278,13 @@ module _ (t : Table) (label reading room : ℕ) where
   abbrev at : Event
   at = tick label reading room
 
-  fire_does : SlotFires t at → (i : ℕ) (k : Hold) → next_due reading t.slots.all ≡ At i → (slot_at t i).hold ≡ k → Does t at (fire_hold (no_room t) reading i k)
+  fire_does : SlotFires t at → (i : ℕ) (k : Hold) → next_due reading t.slots.all ≡ Some i → (slot_at t i).hold ≡ k → Does t at (fire_hold (no_room t) reading i k)
   fire_does z i Empty f g = nothing
   fire_does z i (Live c q) f g = fires i c q (is_tick label reading room) z f g
 
-  fired_does : SlotFires t at → (f : Found) → next_due reading t.slots.all ≡ f → Does t at (fired t reading f)
-  fired_does z Nothing f = nothing
-  fired_does z (At i) f = fire_does z i (hold_at t.slots.all i) f refl
+  fired_does : SlotFires t at → (f : Option ℕ) → next_due reading t.slots.all ≡ f → Does t at (fired t reading f)
+  fired_does z None f = nothing
+  fired_does z (Some i) f = fire_does z i (hold_at t.slots.all i) f refl
 
   second_does : T316Fires t at → (which : Named) (d : ℕ) → t.global.state ≡ RestartRequest which true d → Does t at (expire_second which t.out reading)
   second_does z which d f =
@@ -342,13 +338,13 @@ module _ (t : Table) (label reading room : ℕ) where
   clear_does i cause Empty g host = nothing
   clear_does i cause (Live c q) g host = clears i cause c q (is_clear label reading room) g host
 
-  offered_at_does : (body : List ℕ) (i : ℕ) (c : Channel) → place is_empty t.slots.all ≡ At i → free_pair t ≡ c → Does t (offer label reading room body) (offered_at t reading i c)
+  offered_at_does : (body : List ℕ) (i : ℕ) (c : Option Pair) → place is_empty t.slots.all ≡ Some i → free_pair t ≡ c → Does t (offer label reading room body) (offered_at t reading i c)
   offered_at_does body i None f g = nothing
-  offered_at_does body i (Pair p v) f g = offers i p v (is_offer label reading room body) f g
+  offered_at_does body i (Some pv) f g = offers i pv.vpci pv.vci (is_offer label reading room body) f g
 
-  offered_does : (body : List ℕ) (f : Found) → place is_empty t.slots.all ≡ f → Does t (offer label reading room body) (offered t reading f)
-  offered_does body Nothing f = nothing
-  offered_does body (At i) f = offered_at_does body i (free_pair t) f refl
+  offered_does : (body : List ℕ) (f : Option ℕ) → place is_empty t.slots.all ≡ f → Does t (offer label reading room body) (offered t reading f)
+  offered_does body None f = nothing
+  offered_does body (Some i) f = offered_at_does body i (free_pair t) f refl
 
   restart_command_does : (target : Target) → target_refusal t.global.state t.pool target ≡ 0
       → Does t (restart label reading room target) (requested reading (named_by target) false)

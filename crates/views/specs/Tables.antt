@@ -34,8 +34,8 @@ NoneEmpty t = (i : ℕ) → i < slot_count → (c : Call) × ((q : State) × Has
 
 -- the live call c holds the pair of VPCI p and VCI v
 pub record OnPair (p v : ℕ) (c : Call) : Type 0 where
-  pub vpci : c.vpci ≡ p
-  pub vci : c.vci ≡ v
+  pub vpci : c.pair.vpci ≡ p
+  pub vci : c.pair.vci ≡ v
 
 -- some live call holds the pair
 pub record Holds (t : Table) (p v : ℕ) : Type 0 where

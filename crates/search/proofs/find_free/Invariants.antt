@@ -1,10 +1,10 @@
 -- `find_free` meets its contract. The invariants: all marks of the ranges passed are set; and, in a range, those of the VCIs passed.
 -- Assumes nothing.
+use Rattle.std.specs.Prelude.{None}
 use Prim.Native.Nat.{ℕ, ◌+◌, ◌-◌, ◌*◌, ◌≤◌, ◌<◌}
 use mathlib.Core.Path.{◌≡◌}
 use mathlib.Core.Bool.{true, false}
 use lib.ListN.{get_or}
-use Rattle.channels.specs.declared.Channel.TheVariants.{None}
 use Rattle.search.specs.Marks.{near}
 use Rattle.search.proofs.Walked.{Full}
 use Rattle.search.proofs.find_free.Given as goal

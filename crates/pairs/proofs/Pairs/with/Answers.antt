@@ -23,7 +23,7 @@ loop-i-preserved-then-next-carried c = (
   c.loop-i.invariant.1,
   c.loop-i.invariant.2,
   filled_more c.loop-i.numbers c.loop-i.i (get_or c.args.self.numbers c.loop-i.i 0) (omega arith) c.loop-i.invariant.3,
-  inserted_past (inserted (pair_number c.args.vpci c.args.vci) (listed c.args.self)) c.loop-i.numbers (drop c.loop-i.i (listed c.args.self)) c.loop-i.i
+  inserted_past (inserted (pair_number c.args.pair.vpci c.args.pair.vci) (listed c.args.self)) c.loop-i.numbers (drop c.loop-i.i (listed c.args.self)) c.loop-i.i
       (get_or c.args.self.numbers c.loop-i.i 0) c.loop-i.carried (drop (c.loop-i.i + 1) (listed c.args.self)) (omega arith)
       (listed_next c.args.self c.args.self.count c.loop-i.i c.loop-i.invariant.1 (omega arith)) c.if-next-carried.true c.loop-i.invariant.4,
 )
@@ -34,7 +34,7 @@ loop-i-preserved c = (
   c.loop-i.invariant.1,
   c.loop-i.invariant.2,
   filled_more c.loop-i.numbers c.loop-i.i c.loop-i.carried (omega arith) c.loop-i.invariant.3,
-  inserted_here (inserted (pair_number c.args.vpci c.args.vci) (listed c.args.self)) c.loop-i.numbers (drop c.loop-i.i (listed c.args.self)) c.loop-i.i
+  inserted_here (inserted (pair_number c.args.pair.vpci c.args.pair.vci) (listed c.args.self)) c.loop-i.numbers (drop c.loop-i.i (listed c.args.self)) c.loop-i.i
       (get_or c.args.self.numbers c.loop-i.i 0) c.loop-i.carried (drop (c.loop-i.i + 1) (listed c.args.self)) (omega arith)
       (listed_next c.args.self c.args.self.count c.loop-i.i c.loop-i.invariant.1 (omega arith)) c.if-next-carried.false c.loop-i.invariant.4,
 )
@@ -44,5 +44,5 @@ returns c = let e : c.loop-i.i ≡ c.args.self.count = omega arith in
     let ns = set c.loop-i.numbers c.args.self.count c.loop-i.carried in
     rw (sym c.is_full.ensures ∙ c.if-is_full.false)
     (filled_all ns (c.args.self.count + 1) (omega arith) (filled_more c.loop-i.numbers c.args.self.count c.loop-i.carried (omega arith) (rw e at c.loop-i.invariant.3))
-    ∙ ap packed (inserted_last (inserted (pair_number c.args.vpci c.args.vci) (listed c.args.self)) c.loop-i.numbers (listed c.args.self) c.args.self.count c.loop-i.carried (omega arith) (omega arith)
+    ∙ ap packed (inserted_last (inserted (pair_number c.args.pair.vpci c.args.pair.vci) (listed c.args.self)) c.loop-i.numbers (listed c.args.self) c.args.self.count c.loop-i.carried (omega arith) (omega arith)
     (rw e at c.loop-i.invariant.4)))

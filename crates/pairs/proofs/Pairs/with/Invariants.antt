@@ -10,7 +10,7 @@ use Rattle.pairs.proofs.Pairs.with.Given as goal
 
 abbrev pub invariant-loop-i : goal.invariant-loop-i
 invariant-loop-i l = (l.i ≤ l.n) × Span l.self l.n × (l.n < room) × Filled l.numbers l.i
-    × (inserted (pair_number l.vpci l.vci) (listed l.self) ≡ take l.i l.numbers ++ inserted l.carried (drop l.i (listed l.self)))
+    × (inserted (pair_number l.fn.pair.vpci l.fn.pair.vci) (listed l.self) ≡ take l.i l.numbers ++ inserted l.carried (drop l.i (listed l.self)))
 
 abbrev pub decreases-loop-i : goal.decreases-loop-i
 decreases-loop-i l = l.n - l.i

@@ -18,7 +18,7 @@ loop-i-preserved-then-is_number c = (
   c.loop-i.invariant.1,
   search rules,
   c.loop-i.invariant.3,
-  removed_here c.args.vpci c.args.vci (removed c.args.vpci c.args.vci (listed c.args.self)) c.loop-i.numbers (drop c.loop-i.i (listed c.args.self)) c.loop-i.kept
+  removed_here c.args.pair.vpci c.args.pair.vci (removed c.args.pair.vpci c.args.pair.vci (listed c.args.self)) c.loop-i.numbers (drop c.loop-i.i (listed c.args.self)) c.loop-i.kept
       (get_or c.args.self.numbers c.loop-i.i 0) (drop (c.loop-i.i + 1) (listed c.args.self))
       (listed_next c.args.self _ c.loop-i.i c.loop-i.invariant.1 (omega arith)) (sym c.is_number.ensures ∙ c.if-is_number.true) c.loop-i.invariant.4,
 )
@@ -29,11 +29,11 @@ loop-i-preserved c = (
   c.loop-i.invariant.1,
   search rules,
   filled_more c.loop-i.numbers c.loop-i.kept (get_or c.args.self.numbers c.loop-i.i 0) (omega arith) c.loop-i.invariant.3,
-  removed_past c.args.vpci c.args.vci (removed c.args.vpci c.args.vci (listed c.args.self)) c.loop-i.numbers (drop c.loop-i.i (listed c.args.self)) c.loop-i.kept
+  removed_past c.args.pair.vpci c.args.pair.vci (removed c.args.pair.vpci c.args.pair.vci (listed c.args.self)) c.loop-i.numbers (drop c.loop-i.i (listed c.args.self)) c.loop-i.kept
       (get_or c.args.self.numbers c.loop-i.i 0) (drop (c.loop-i.i + 1) (listed c.args.self)) (omega arith)
       (listed_next c.args.self _ c.loop-i.i c.loop-i.invariant.1 (omega arith)) (sym c.is_number.ensures ∙ c.if-is_number.false) c.loop-i.invariant.4,
 )
 
 pub returns : goal.returns
 returns c = filled_all c.loop-i.numbers c.loop-i.kept (omega arith) c.loop-i.invariant.3
-    ∙ ap packed (removed_last c.args.vpci c.args.vci (removed c.args.vpci c.args.vci (listed c.args.self)) c.loop-i.numbers (listed c.args.self) c.loop-i.kept c.loop-i.i (omega arith) c.loop-i.invariant.4)
+    ∙ ap packed (removed_last c.args.pair.vpci c.args.pair.vci (removed c.args.pair.vpci c.args.pair.vci (listed c.args.self)) c.loop-i.numbers (listed c.args.self) c.loop-i.kept c.loop-i.i (omega arith) c.loop-i.invariant.4)

@@ -9,7 +9,7 @@ use Rattle.pairs.proofs.Places.{Span, Filled}
 use Rattle.pairs.proofs.Pairs.without.Given as goal
 
 abbrev pub invariant-loop-i : goal.invariant-loop-i
-invariant-loop-i l = (l.i ≤ l.n) × Span l.self l.n × (l.kept ≤ l.i) × Filled l.numbers l.kept × (removed l.vpci l.vci (listed l.self) ≡ take l.kept l.numbers ++ removed l.vpci l.vci (drop l.i (listed l.self)))
+invariant-loop-i l = (l.i ≤ l.n) × Span l.self l.n × (l.kept ≤ l.i) × Filled l.numbers l.kept × (removed l.pair.vpci l.pair.vci (listed l.self) ≡ take l.kept l.numbers ++ removed l.pair.vpci l.pair.vci (drop l.i (listed l.self)))
 
 abbrev pub decreases-loop-i : goal.decreases-loop-i
 decreases-loop-i l = l.n - l.i

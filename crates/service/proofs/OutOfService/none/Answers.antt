@@ -1,4 +1,0 @@
-use Rattle.service.proofs.OutOfService.none.Goals as goal
-
-pub returns : goal.returns
-returns c = rw c.none-pairs.ensures
