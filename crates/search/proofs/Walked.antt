@@ -57,7 +57,7 @@ module _ (t : ℕ → ℕ → Bool) (rs : List Range) (k : ℕ) where
 
   lowest_at : (v : ℕ) → k < length rs → (range_at rs k).first ≤ v → v ≤ (range_at rs k).last
       → ((w : ℕ) → (range_at rs k).first ≤ w → w < v → t (range_at rs k).vpci w ≡ true) → t (range_at rs k).vpci v ≡ false
-      → lowest t rs ≡ lowest t (drop k rs) → lowest t rs ≡ Pair (range_at rs k).vpci v
+      → lowest t rs ≡ lowest t (drop k rs) → lowest t rs ≡ Some (pair (range_at rs k).vpci v)
   lowest_at v h low high all free left =
       let r = range_at rs k in
       left ∙ lowest_here t rs k h ∙ scan-first t r.vpci (lowest t (drop (k + 1) rs)) ((r.last + 1) - r.first) r.first v low (omega arith) all free
@@ -93,7 +93,7 @@ module _ (t : ℕ → ℕ → Bool) (few : Sparse t) (rs : List Range) (n : ℕ)
 
   pub walked_found : (k : ℕ) {v last : ℕ} → k < n → ((j : ℕ) → j < k → Full rs on j) → last ≡ near_last (range_at rs k) → last ≤ 65535
       → (range_at rs k).first ≤ v → v ≤ last → ((o : ℕ) → o < v - (range_at rs k).first → get_or on (k * near + o) false ≡ true)
-      → get_or on (k * near + (v - (range_at rs k).first)) false ≡ false → Pair (range_at rs k).vpci v ≡ lowest t rs
+      → get_or on (k * near + (v - (range_at rs k).first)) false ≡ false → Some (pair (range_at rs k).vpci v) ≡ lowest t rs
   walked_found k {v} {last} h full at fits low high before free =
       let r = range_at rs k in
       let mark : (w : ℕ) → r.first ≤ w → w ≤ v → get_or on (k * near + (w - r.first)) false ≡ t r.vpci w =

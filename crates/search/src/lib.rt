@@ -11,7 +11,7 @@
 #![tactic(auto)]
 
 ghost use Rattle.std.specs.Prelude.{◌≡◌, ◌&&◌, ◌+◌, ◌*◌, ◌≤◌, ◌<◌, eqb, length};
-ghost use Rattle.channels.specs.Some.{some_of};
+ghost use Rattle.std.specs.List.{list_any};
 ghost use Rattle.channels.specs.Channels.{range_count, is_pair, among};
 ghost use Rattle.pairs.specs.Pairs.{is_number, in_pairs, size};
 ghost use Rattle.calls.specs.Calls.{is_live, holds_pair};
@@ -20,7 +20,7 @@ ghost use Rattle.search.specs.Search.{taken_singly, how_many, has_pair, there, p
 ghost use Rattle.search.specs.Marks.{near, all_marks, used, mark_in, near_last, Added};
 
 use calls::Hold;
-use channels::{Channel, Named, PERMANENTS, Pool, RANGES, Range};
+use channels::{Named, PERMANENTS, Pair, Pool, RANGES, Range};
 use pairs::{Pairs, number};
 use service::{GlobalState, OutOfService};
 use slots::{SLOTS, Slots};
@@ -34,7 +34,7 @@ const MARKS: usize = 680;
 // The lowest free pair, and how many pairs were read to find it.
 #[derive(Clone, Copy)]
 pub struct Finding {
-    pub found: Channel,
+    pub found: Option<Pair>,
     pub reads: u32,
 }
 
@@ -59,7 +59,10 @@ fn mark_in(range: Range, k: usize, pair: u32, on: &mut [bool])
     requires { (k < range_count) × (length on.old ≡ all_marks) }
     ensures { on.new ≡ mark_in range k pair on.old }
 {
-    let first = number(range.vpci, range.first);
+    let first = number(Pair {
+        vpci: range.vpci,
+        vci: range.first,
+    });
     if pair < first {
         return;
     }
@@ -70,26 +73,26 @@ fn mark_in(range: Range, k: usize, pair: u32, on: &mut [bool])
 }
 
 // A pair that was read: the count is stepped, and its mark is set in each of the first n ranges.
-fn mark_pair(pool: Pool, n: usize, vpci: u16, vci: u16, on: &mut [bool], reads: &mut u32)
+fn mark_pair(pool: Pool, n: usize, pair: Pair, on: &mut [bool], reads: &mut u32)
     requires { (n ≤ range_count) × (length on.old ≡ all_marks) × (reads.old < 3 * near) }
     ensures count { reads.new ≡ reads.old + 1 }
-    ensures marks { Added pool.ranges n (λ p v. eqb vpci p && eqb vci v) on.old on.new }
+    ensures marks { Added pool.ranges n (λ p v. eqb pair.vpci p && eqb pair.vci v) on.old on.new }
 {
     *reads += 1;
-    let pair = number(vpci, vci);
-    mark_in(pool.ranges[0], 0, pair, on);
+    let number = number(pair);
+    mark_in(pool.ranges[0], 0, number, on);
     if n < 2 {
         return;
     }
-    mark_in(pool.ranges[1], 1, pair, on);
+    mark_in(pool.ranges[1], 1, number, on);
     if n < 3 {
         return;
     }
-    mark_in(pool.ranges[2], 2, pair, on);
+    mark_in(pool.ranges[2], 2, number, on);
     if n < 4 {
         return;
     }
-    mark_in(pool.ranges[3], 3, pair, on);
+    mark_in(pool.ranges[3], 3, number, on);
 }
 
 // The same, of a pair by its number.
@@ -98,16 +101,18 @@ fn mark_number(pool: Pool, n: usize, pair: u32, on: &mut [bool], reads: &mut u32
     ensures count { reads.new ≡ reads.old + 1 }
     ensures marks { Added pool.ranges n (λ p v. is_number p v pair) on.old on.new }
 {
-    let vpci = (pair / 65536) as u16;
-    let vci = (pair % 65536) as u16;
-    mark_pair(pool, n, vpci, vci, on, reads);
+    let pair = Pair {
+        vpci: (pair / 65536) as u16,
+        vci: (pair % 65536) as u16,
+    };
+    mark_pair(pool, n, pair, on, reads);
 }
 
 // Reads the pair of each call.
 fn mark_slots(pool: Pool, n: usize, slots: Slots, on: &mut [bool], reads: &mut u32)
     requires { (n ≤ range_count) × (length on.old ≡ all_marks) × (reads.old ≤ near) }
     ensures count { reads.new ≡ reads.old + how_many is_live slots.all }
-    ensures marks { Added pool.ranges n (λ p v. some_of (holds_pair p v) slots.all) on.old on.new }
+    ensures marks { Added pool.ranges n (λ p v. list_any (holds_pair p v) slots.all) on.old on.new }
 {
     let mut i: usize = 0;
     while i < SLOTS {
@@ -117,7 +122,7 @@ fn mark_slots(pool: Pool, n: usize, slots: Slots, on: &mut [bool], reads: &mut u
         let Hold::Live(call, _) = hold else {
             continue;
         };
-        mark_pair(pool, n, call.vpci, call.vci, on, reads);
+        mark_pair(pool, n, call.pair, on, reads);
     }
 }
 
@@ -129,13 +134,12 @@ fn mark_permanents(pool: Pool, n: usize, on: &mut [bool], reads: &mut u32)
 {
     let mut i: usize = 0;
     while i < PERMANENTS {
-        let entry = pool.permanents[i];
+        let place = pool.permanents[i];
         i += 1;
-        let channel = entry.channel;
-        let Channel::Pair(vpci, vci) = channel else {
+        let Some(pair) = place else {
             continue;
         };
-        mark_pair(pool, n, vpci, vci, on, reads);
+        mark_pair(pool, n, pair, on, reads);
     }
 }
 
@@ -163,10 +167,10 @@ fn mark_request(pool: Pool, n: usize, state: GlobalState, on: &mut [bool], reads
     let GlobalState::RestartRequest(named, _, _) = state else {
         return;
     };
-    let Named::Pair(vpci, vci) = named else {
+    let Named::One(pair) = named else {
         return;
     };
-    mark_pair(pool, n, vpci, vci, on, reads);
+    mark_pair(pool, n, pair, on, reads);
 }
 
 // Reads each pair once.
@@ -215,7 +219,7 @@ pub fn find_free(
 ) -> Finding
     ensures { result ≡ searched slots.all doubts out state pool }
 {
-    let mut found = Channel::None;
+    let mut found = None;
     let mut reads: u32 = 0;
     let n = ranges_used(pool);
     if n == 0 {
@@ -240,7 +244,10 @@ pub fn find_free(
         let mut v = first;
         while v <= last {
             if !on[k * NEAR + (v - first) as usize] {
-                found = Channel::Pair(range.vpci, v as u16);
+                found = Some(Pair {
+                    vpci: range.vpci,
+                    vci: v as u16,
+                });
                 break 'search;
             }
             v += 1;

@@ -1,5 +1,6 @@
 -- `mark_permanents` meets its contract. The loop's invariant: the pairs of the entries passed are marked and counted.
 use borrow.Author.Rules.{rules}
+use Rattle.std.specs.Prelude.{None}
 use native.Mathlib.Omega.{arith}
 use mathlib.Core.Path.{◌≡◌}
 use lib.ListN.{length}
@@ -31,7 +32,7 @@ pub loop-i-preserved : goal.loop-i-preserved
 loop-i-preserved c = (
   c.loop-i.invariant.0,
   passed_on has_pair is_pair c.args.pool.ranges c.args.n c.args.pool.permanents c.args.on.now c.args.reads.now c.loop-i.i c.loop-i.on c.loop-i.reads None _ _ _ _ (omega arith)
-      (rw c.in-Pair.is) (λ p v. rw c.in-Pair.is) c.mark_pair.ensures.count c.mark_pair.ensures.marks c.loop-i.invariant.1,
+      (rw c.in-Some.is) (λ p v. rw c.in-Some.is) c.mark_pair.ensures.count c.mark_pair.ensures.marks c.loop-i.invariant.1,
 )
 
 pub shape_of-on : goal.shape_of-on

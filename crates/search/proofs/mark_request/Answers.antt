@@ -11,4 +11,4 @@ pub returns-in_default-named : goal.returns-in_default-named
 returns-in_default-named c = rw (c.in-RestartRequest.is, c.in_default-named.is) (record { count = omega arith; marks = added_none c.args.pool.ranges c.args.n c.args.on.now })
 
 pub returns : goal.returns
-returns c = record { count = rw (c.in-RestartRequest.is, c.in-Pair.is) c.mark_pair.ensures.count; marks = rw (c.in-RestartRequest.is, c.in-Pair.is) c.mark_pair.ensures.marks }
+returns c = record { count = rw (c.in-RestartRequest.is, c.in-One.is) c.mark_pair.ensures.count; marks = rw (c.in-RestartRequest.is, c.in-One.is) c.mark_pair.ensures.marks }
