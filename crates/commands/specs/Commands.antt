@@ -3,7 +3,7 @@
 --   network_call, offered_on     the call of an offer, and its SETUP on a pair
 -- The refusals are in crate refusals, the events in control. Assumes nothing.
 use Rattle.channels.specs.Channels.{pair}
-use Rattle.std.specs.Prelude.{ℕ, ◌+◌, true, false, not}
+use Rattle.std.specs.Prelude.{ℕ, ◌+◌, true, false, not, None}
 use Rattle.calls.specs.declared.State.TheVariants.{N6, N10}
 use Rattle.calls.specs.declared.Call.{Call}
 use Rattle.calls.specs.declared.Hold.{Hold}
@@ -19,7 +19,7 @@ use Rattle.effects.specs.Effect.{quiet, on_call, assigned}
 -- "connect: CONNECT without elements, N10."
 abbrev pub connected : ℕ → Hold → Effect
 connected i Empty = quiet
-connected i (Live c q) = on_call i c (not c.network) c.reference (moved N10 reply.Connect 0)
+connected i (Live c q) = on_call i c (not c.network) c.reference (moved N10 reply.Connect None)
 
 -- "clear: RELEASE with the cause, N12, T308."
 abbrev pub cleared : ℕ → ℕ → ℕ → Hold → Effect

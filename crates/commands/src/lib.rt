@@ -11,6 +11,7 @@ ghost use Rattle.calls.specs.Timers.{largest_reading};
 ghost use Rattle.commands.specs.Commands.{connected, cleared, offered_on};
 
 use calls::{Call, Hold, State, T303};
+use channels::Pair;
 use effects::Effect;
 use replies::{Outgoing, Reply};
 
@@ -25,7 +26,7 @@ pub fn connect_call(i: usize, hold: Hold) -> Effect
             call,
             !call.network,
             call.reference,
-            verdicts::moved(State::N10, Reply::Connect, 0),
+            verdicts::moved(State::N10, Reply::Connect, None),
         ),
     }
 }
@@ -48,21 +49,20 @@ pub fn clear_call(reading: u64, i: usize, hold: Hold, cause: u8) -> Effect
 }
 
 // SETUP is sent on a pair, and T303 runs.
-pub fn offer_call(reading: u64, i: usize, reference: u32, vpci: u16, vci: u16) -> Effect
+pub fn offer_call(reading: u64, i: usize, reference: u32, pair: Pair) -> Effect
     requires { reading ≤ largest_reading }
-    ensures { result ≡ offered_on reading i reference vpci vci }
+    ensures { result ≡ offered_on reading i reference pair.vpci pair.vci }
 {
     let call = Call {
         network: true,
-        vpci: vpci,
-        vci: vci,
-        reference: reference,
+        pair,
+        reference,
     };
     effects::assign(
         i,
         call,
         State::N6(reading + T303),
         false,
-        Outgoing::Setup(vpci, vci),
+        Outgoing::Setup(pair.vpci, pair.vci),
     )
 }

@@ -18,6 +18,7 @@ use Rattle.service.specs.declared.Global.{Global}
 use Rattle.service.specs.declared.GlobalState.TheVariants.{Null, RestartRequest}
 use Rattle.service.specs.declared.OutOfService.{OutOfService}
 use Rattle.service.specs.Service.{none_out, with_out}
+use Rattle.verdicts.specs.Verdict.{notice_number}
 use Rattle.effects.specs.declared.Ending.{Ending}
 use Rattle.effects.specs.declared.Ending.TheVariants.{User, Acknowledged, Expired}
 use Rattle.effects.specs.declared.Change.{Change}
@@ -27,7 +28,7 @@ use Rattle.effects.specs.declared.Change.TheVariants.{Keep, Put, Doubt, Restart,
 abbrev pub slots_after : Change → Slots → Slots
 slots_after Keep ss = ss
 slots_after (Put i s notice) ss = slots_of (set ss.all i s)
-slots_after (Doubt i p v) ss = slots_of (set ss.all i no_slot)
+slots_after (Doubt i c) ss = slots_of (set ss.all i no_slot)
 slots_after (Restart named why) ss = slots_of (map (emptied (is_named named)) ss.all)
 slots_after (Request named second d) ss = ss
 slots_after PutBack ss = ss
@@ -37,7 +38,7 @@ slots_after PutBack ss = ss
 abbrev pub doubts_after : Change → Pairs → Pairs
 doubts_after Keep ds = ds
 doubts_after (Put i s notice) ds = ds
-doubts_after (Doubt i p v) ds = with_pair ds p v
+doubts_after (Doubt i c) ds = with_pair ds c.vpci c.vci
 doubts_after (Restart named why) ds = unless_named ds named
 doubts_after (Request named second d) ds = ds
 doubts_after PutBack ds = ds
@@ -51,7 +52,7 @@ global_ended Expired g = record { state = Null }
 abbrev pub global_after : Change → Global → Global
 global_after Keep g = g
 global_after (Put i s notice) g = g
-global_after (Doubt i p v) g = g
+global_after (Doubt i c) g = g
 global_after (Restart named why) g = global_ended why g
 global_after (Request named second d) g = record { state = RestartRequest named second d }
 global_after PutBack g = g
@@ -65,7 +66,7 @@ out_ended Expired named o = with_out o named
 abbrev pub out_after : Change → OutOfService → OutOfService
 out_after Keep o = o
 out_after (Put i s notice) o = o
-out_after (Doubt i p v) o = o
+out_after (Doubt i c) o = o
 out_after (Restart named why) o = out_ended why named o
 out_after (Request named second d) o = o
 out_after PutBack o = none_out
@@ -82,8 +83,8 @@ flagged notice i = cond (eqb notice 0) no_flags (flags_at i)
 
 abbrev pub flags_of : Change → Slots → Flags
 flags_of Keep ss = no_flags
-flags_of (Put i s notice) ss = flagged notice i
-flags_of (Doubt i p v) ss = flags_at i
+flags_of (Put i s notice) ss = flagged (notice_number notice) i
+flags_of (Doubt i c) ss = flags_at i
 flags_of (Restart named why) ss = record { on = map (is_named named) ss.all }
 flags_of (Request named second d) ss = no_flags
 flags_of PutBack ss = no_flags
@@ -95,8 +96,8 @@ gone_notice f = cond (list_any is_set f.on) 3 0
 -- "Where no notice is named it is 0."
 abbrev pub notice_of : Change → Flags → ℕ
 notice_of Keep f = 0
-notice_of (Put i s notice) f = notice
-notice_of (Doubt i p v) f = 3
+notice_of (Put i s notice) f = notice_number notice
+notice_of (Doubt i c) f = 3
 notice_of (Restart named why) f = gone_notice f
 notice_of (Request named second d) f = 0
 notice_of PutBack f = 0

@@ -3,7 +3,7 @@
 --   fated, on_call          what its fate makes of a call; a verdict on the call of one slot
 --   assigned               a call put into an empty slot
 -- Assumes nothing.
-use Rattle.std.specs.Prelude.{ℕ, Bool, false}
+use Rattle.std.specs.Prelude.{ℕ, Bool, false, Some}
 use Rattle.calls.specs.declared.State.{State}
 use Rattle.calls.specs.declared.Call.{Call}
 use Rattle.calls.specs.Calls.{no_slot, live_slot}
@@ -13,6 +13,7 @@ use Rattle.replies.specs.declared.Outgoing.{Outgoing}
 use Rattle.replies.specs.declared.Outgoing.TheVariants as outgoing
 use Rattle.verdicts.specs.declared.Fate.{Fate}
 use Rattle.verdicts.specs.declared.Fate.TheVariants as fate
+use Rattle.verdicts.specs.declared.Notice.TheVariants as notice
 use Rattle.verdicts.specs.declared.Verdict.{Verdict}
 use Rattle.effects.specs.declared.Change.{Change}
 use Rattle.effects.specs.declared.Change.TheVariants.{Keep, Put, Doubt}
@@ -27,9 +28,9 @@ quiet = replying false 0 reply.None
 -- "Each state change stops the old timer." ""Gone" empties slot and pair, notice 3." Document 02, R-2: "the pair is in doubt"
 abbrev pub fated : ℕ → Call → Fate → Change
 fated i c fate.Stay = Keep
-fated i c (fate.To q notice) = Put i (live_slot c q) notice
-fated i c fate.Gone = Put i no_slot 3
-fated i c fate.InDoubt = Doubt i c.pair.vpci c.pair.vci
+fated i c (fate.To q told) = Put i (live_slot c q) told
+fated i c fate.Gone = Put i no_slot (Some notice.Gone)
+fated i c fate.InDoubt = Doubt i c.pair
 
 -- a verdict on the call c of slot i; replies about it carry this flag and call reference
 abbrev pub on_call : ℕ → Call → Bool → ℕ → Verdict → Effect
@@ -37,4 +38,4 @@ on_call i c flag r v = record { change = fated i c v.fate; flag = flag; referenc
 
 -- a call put into slot i: "notice 1"
 abbrev pub assigned : ℕ → Call → State → Bool → Outgoing → Effect
-assigned i c q flag sent = record { change = Put i (live_slot c q) 1; flag = flag; reference = c.reference; outgoing = sent }
+assigned i c q flag sent = record { change = Put i (live_slot c q) (Some notice.Asked); flag = flag; reference = c.reference; outgoing = sent }

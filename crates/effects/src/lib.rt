@@ -10,15 +10,16 @@
 #![tactic(auto)]
 
 ghost use Rattle.std.specs.Prelude.{◌≡◌};
+ghost use Rattle.verdicts.specs.Verdict.{notice_number};
 ghost use Rattle.effects.specs.Change.{global_ended, out_ended, flagged};
 ghost use Rattle.effects.specs.Effect.{fated, replying, quiet, on_call, assigned};
 
 use calls::{Call, Slot, State};
-use channels::Named;
+use channels::{Named, Pair};
 use replies::{Outgoing, Reply};
 use service::{Global, GlobalState, OutOfService};
 use slots::Flags;
-use verdicts::{Fate, Verdict};
+use verdicts::{Fate, Notice, Verdict};
 
 // Why calls and doubts end: a user's RESTART, the acknowledge of ours, or T316 that ran out a second time.
 #[derive(Clone, Copy)]
@@ -32,10 +33,10 @@ pub enum Ending {
 #[derive(Clone, Copy)]
 pub enum Change {
     Keep,
-    // The slot with this number becomes this, and this notice names it (0: none does).
-    Put(usize, Slot, u8),
+    // The slot with this number becomes this, and this notice, if there is one, names it.
+    Put(usize, Slot, Option<Notice>),
     // The call of the slot is gone, and its pair is in doubt.
-    Doubt(usize, u16, u16),
+    Doubt(usize, Pair),
     // The calls on the pairs that are named are gone, and none of these pairs is in doubt.
     Restart(Named, Ending),
     // Our RESTART names these pairs; if T316 runs a second time, and its deadline.
@@ -54,13 +55,13 @@ pub struct Effect {
 }
 
 // The flag of a slot, where there is a notice.
-pub fn flag_slot(notice: u8, slot: usize) -> Flags
-    ensures { result ≡ flagged notice slot }
+pub fn flag_slot(notice: Option<Notice>, slot: usize) -> Flags
+    ensures { result ≡ flagged (notice_number notice) slot }
 {
-    if notice == 0 {
-        return Flags::none();
+    match notice {
+        None => Flags::none(),
+        Some(_) => Flags::only(slot),
     }
-    Flags::only(slot)
 }
 
 // A RESTART of ours is under way no more, if it was ours that ended.
@@ -69,10 +70,7 @@ pub fn global_after(why: Ending, global: Global) -> Global
 {
     match why {
         Ending::User => global,
-        Ending::Acknowledged => Global {
-            state: GlobalState::Null,
-        },
-        Ending::Expired => Global {
+        Ending::Acknowledged | Ending::Expired => Global {
             state: GlobalState::Null,
         },
     }
@@ -83,8 +81,7 @@ pub fn out_after(why: Ending, named: Named, out: OutOfService) -> OutOfService
     ensures { result ≡ out_ended why named out }
 {
     match why {
-        Ending::User => out,
-        Ending::Acknowledged => out,
+        Ending::User | Ending::Acknowledged => out,
         Ending::Expired => out.with(named),
     }
 }
@@ -95,8 +92,8 @@ pub fn replying(flag: bool, reference: u32, reply: Reply) -> Effect
 {
     Effect {
         change: Change::Keep,
-        flag: flag,
-        reference: reference,
+        flag,
+        reference,
         outgoing: Outgoing::Reply(reply),
     }
 }
@@ -115,8 +112,8 @@ fn fated(i: usize, call: Call, fate: Fate) -> Change
     match fate {
         Fate::Stay => Change::Keep,
         Fate::To(state, notice) => Change::Put(i, Slot::live(call, state), notice),
-        Fate::Gone => Change::Put(i, Slot::empty(), 3),
-        Fate::InDoubt => Change::Doubt(i, call.vpci, call.vci),
+        Fate::Gone => Change::Put(i, Slot::empty(), Some(Notice::Gone)),
+        Fate::InDoubt => Change::Doubt(i, call.pair),
     }
 }
 
@@ -124,13 +121,11 @@ fn fated(i: usize, call: Call, fate: Fate) -> Change
 pub fn on_call(i: usize, call: Call, flag: bool, reference: u32, verdict: Verdict) -> Effect
     ensures { result ≡ on_call i call flag reference verdict }
 {
-    let fate = verdict.fate;
-    let reply = verdict.reply;
     Effect {
-        change: fated(i, call, fate),
-        flag: flag,
-        reference: reference,
-        outgoing: Outgoing::Reply(reply),
+        change: fated(i, call, verdict.fate),
+        flag,
+        reference,
+        outgoing: Outgoing::Reply(verdict.reply),
     }
 }
 
@@ -139,9 +134,9 @@ pub fn assign(i: usize, call: Call, state: State, flag: bool, outgoing: Outgoing
     ensures { result ≡ assigned i call state flag outgoing }
 {
     Effect {
-        change: Change::Put(i, Slot::live(call, state), 1),
-        flag: flag,
+        change: Change::Put(i, Slot::live(call, state), Some(Notice::Asked)),
+        flag,
         reference: call.reference,
-        outgoing: outgoing,
+        outgoing,
     }
 }

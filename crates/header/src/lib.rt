@@ -1,6 +1,6 @@
 // The header of a message.
-//   Header, Head     what it says, and whether the header checks let the message pass
-//   read             the header of any octets
+//   Header           what it says
+//   read             the header of any octets, none where the header checks ignore the message
 // Nothing has a `requires`. Assumes nothing.
 #![tactic(auto)]
 
@@ -16,12 +16,6 @@ pub struct Header {
     pub whole: bool,
 }
 
-#[derive(Clone, Copy)]
-pub enum Head {
-    Ignored,
-    Is(Header),
-}
-
 // The octets of the call reference as a number, without the flag.
 fn reference(top: u8, middle: u8, bottom: u8) -> u32
     ensures { result ≡ (top % 128) * 65536 + middle * 256 + bottom }
@@ -29,20 +23,21 @@ fn reference(top: u8, middle: u8, bottom: u8) -> u32
     ((top % 128) as u32) * 65536 + (middle as u32) * 256 + (bottom as u32)
 }
 
-pub fn read(m: &[u8]) -> Head
+// None: the message is ignored.
+pub fn read(m: &[u8]) -> Option<Header>
     ensures { result ≡ head_of m.now }
 {
     if m.len() < 9 {
-        return Head::Ignored;
+        return None;
     }
     if m[0] != 0x09 {
-        return Head::Ignored;
+        return None;
     }
     if m[1] != 0x03 {
-        return Head::Ignored;
+        return None;
     }
     let size = octets::number(m[7], m[8]) as usize;
-    Head::Is(Header {
+    Some(Header {
         flag: 128 <= m[2],
         reference: reference(m[2], m[3], m[4]),
         kind: m[5],

@@ -79,7 +79,7 @@ module _ (t : Table) (e : Event) (p v : ℕ) where
     goes : (i : ℕ) → second_expiry t e i ≡ false → ends t e (left (Put i no_slot 3)) p v ≡ false → Doubting (Put i no_slot 3)
     -- it goes by one
     expires : (i : ℕ) (c : Call) (q : State) → HasCall t i c q → second_expiry t e i ≡ true → is_full t.doubts ≡ false
-        → ends t e (left (Doubt i c.pair.vpci c.pair.vci)) p v ≡ false → Doubting (Doubt i c.pair.vpci c.pair.vci)
+        → ends t e (left (Doubt i c.pair)) p v ≡ false → Doubting (Doubt i c.pair)
     -- a user's RESTART, or an acknowledge of ours, which names the pair or does not
     restart : (which : Named) (why : Ending) → ((i : ℕ) → second_expiry t e i ≡ false) → marks t e (left (Restart which why)) p v ≡ false
         → ends t e (left (Restart which why)) p v ≡ by_us.names which p v → Doubting (Restart which why)
@@ -169,7 +169,7 @@ module _ (t : Table) (e : Event) (p v : ℕ) (other : restarts e p v ≡ false) 
       (λ y. rw (last_expires (no_room t) q (reading_of e) y)
       (by_test (no_room t)
       (λ full. rw full (put i _ 0 (λ z. omega arith)))
-      (λ room. rw room (expires i c q live (expiry_at t e i c q is live ∙ y) room (unended (Doubt i c.pair.vpci c.pair.vci) refl)))))
+      (λ room. rw room (expires i c q live (expiry_at t e i c q is live ∙ y) room (unended (Doubt i c.pair) refl)))))
       (λ n. verdict_doubting (no_room t) i c q _ (expiry_at t e i c q is live ∙ n) (λ room. n) (verdict.expired (reading_of e) (no_room t) q))
 
   does_doubting : (x : Effect) → view.Does t e x → Doubting t e p v x.change
@@ -241,7 +241,7 @@ module _ (t : Table) (e : Event) (s : Sound t) (p v : ℕ) where
 
   -- one more pair is in doubt
   more : (i : ℕ) (c : Call) (q : State) → HasCall t i c q → is_full t.doubts ≡ false
-      → after (Doubt i c.pair.vpci c.pair.vci) ≡ ((eqb c.pair.vpci p && eqb c.pair.vci v) || in_pairs t.doubts p v)
+      → after (Doubt i c.pair) ≡ ((eqb c.pair.vpci p && eqb c.pair.vci v) || in_pairs t.doubts p v)
   more i c q live room = let k = (s.calls_sound i c q live).vci_high in with_in t.doubts c.pair.vpci c.pair.vci p v room (omega arith)
 
   pub doubt_free : (x : Change) → Doubting t e p v x → (Holds t p v → ⊥) → in_pairs t.doubts p v ≡ false → after x ≡ false

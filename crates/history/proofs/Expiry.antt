@@ -2,7 +2,8 @@
 --   last_expires    what is decided of the call
 --   expires         of every sound table
 -- Assumes nothing.
-use Rattle.std.specs.Prelude.{Some}
+use Rattle.verdicts.specs.declared.Notice.TheVariants as notice
+use Rattle.std.specs.Prelude.{Some, None}
 use Prim.Native.Nat.{ℕ, ◌<◌}
 use mathlib.Core.Path.{◌≡◌, refl, ap, ◌∙◌}
 use mathlib.Core.Bool.{Bool, true, false, not, cond}
@@ -41,7 +42,7 @@ use Rattle.safety.proofs.Accepted.{accepted_effect}
 
 -- T308 runs again, or the call is gone and its pair is in doubt
 abbrev pub last_verdict : Bool → State → ℕ → Verdict
-last_verdict full q reading = cond full (moved (again reading q) reply.None 0) lost
+last_verdict full q reading = cond full (moved (again reading q) reply.None None) lost
 
 pub last_expires : (full : Bool) (q : State) (reading : ℕ) → last_t308 q ≡ true → expire full q reading ≡ last_verdict full q reading
 last_expires full N3 reading e = clash e refl

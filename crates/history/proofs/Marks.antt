@@ -97,7 +97,7 @@ module _ (t : Table) (e : Event) (p v : ℕ) where
   judged_left i c fate.Stay = left Keep refl refl
   judged_left i c (fate.To q notice) = left (Put i _ notice) refl refl
   judged_left i c fate.Gone = left (Put i _ 3) refl refl
-  judged_left i c fate.InDoubt = left (Doubt i c.pair.vpci c.pair.vci) refl refl
+  judged_left i c fate.InDoubt = left (Doubt i c.pair) refl refl
 
   requested : (which : Named) (second : Bool) (d : ℕ) → Marking t e p v (Request which second d)
   requested which second d = none (Request which second d) (waiting-unmarked t p v e (table_after t (reading_of e) (Request which second d)) refl) refl

@@ -4,6 +4,7 @@
 --   Sight, sight               what a message sees of the slots
 --   decide, decision           the deed of a message, as document 01 decides it: from the message and what it sees, and nothing else
 -- Assumes nothing.
+use Rattle.verdicts.specs.Verdict.{notice_number}
 use Rattle.std.specs.Prelude.{Option, Some, None}
 use Prim.Native.Nat.{ℕ}
 use mathlib.Core.Bool.{Bool, true, false, not, cond, ◌&&◌}
@@ -65,7 +66,7 @@ fated fate.InDoubt s = no_slot
 
 abbrev pub notice_of : Fate → ℕ
 notice_of fate.Stay = 0
-notice_of (fate.To q notice) = notice
+notice_of (fate.To q notice) = notice_number notice
 notice_of fate.Gone = 3
 notice_of fate.InDoubt = 3
 

@@ -6,6 +6,7 @@
 --   takes, hears            a message that is refused leaves the table, and one that is not does its deed
 --   still_accepted          and the reading is accepted in the table afterwards
 -- Assumes nothing.
+use Rattle.verdicts.specs.declared.Notice.{Notice}
 use Rattle.std.specs.Prelude.{Option, Some, None}
 use Prim.Native.Nat.{ℕ}
 use mathlib.Core.Path.{◌≡◌, refl, ap, sym, ◌∙◌}
@@ -50,7 +51,7 @@ use Rattle.independence.proofs.Deeds.{Deed, given, in_state, fated, perform, sig
 -- every fate but InDoubt
 data Sure : Fate → Type 0 where
   stay : Sure fate.Stay
-  to : (q : State) (notice : ℕ) → Sure (fate.To q notice)
+  to : (q : State) (notice : Option Notice) → Sure (fate.To q notice)
   gone : Sure fate.Gone
 
 -- only a timer leaves a pair in doubt, and not where there is no room for it

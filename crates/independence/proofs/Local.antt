@@ -5,6 +5,7 @@
 --   other_call                 a deed leaves every call of another flagged reference
 --   Calm, calm_empty, calm_free     a deed that ends no call leaves every empty slot and every pair
 -- Assumes nothing.
+use Rattle.verdicts.specs.declared.Notice.{Notice}
 use Rattle.std.specs.Prelude.{Option, Some, None}
 use Prim.Native.Nat.{ℕ}
 use mathlib.Core.Path.{◌≡◌, refl, ap, ◌∙◌}
@@ -128,7 +129,7 @@ other_call h k d other (of_fill g p v setup user) = λ s e. (empty_slot h s e, o
 
 pub data Calm : Fate → Type 0 where
   stay : Calm fate.Stay
-  to : (q : State) (notice : ℕ) → Calm (fate.To q notice)
+  to : (q : State) (notice : Option Notice) → Calm (fate.To q notice)
 
 state_empty : (q : State) (k : Hold) → is_empty (in_state q k) ≡ empty_hold k
 state_empty q Empty = refl

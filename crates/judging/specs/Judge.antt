@@ -6,7 +6,8 @@
 --   status_reply, no_call_reply       steps 3 to 6 of a message on no call, other than SETUP
 --   global_reply                    step 3 of a message on the global reference, other than RESTART with flag 0
 -- Assumes nothing.
-use Rattle.std.specs.Prelude.{ℕ, ◌+◌, cond, ◌&&◌, List, eqb}
+use Rattle.verdicts.specs.declared.Notice.TheVariants as notice
+use Rattle.std.specs.Prelude.{ℕ, ◌+◌, cond, ◌&&◌, List, eqb, Some, None}
 use Rattle.calls.specs.declared.State.{State}
 use Rattle.calls.specs.declared.State.TheVariants.{N3, N6, N9, N10, N12}
 use Rattle.calls.specs.Calls.{state_number}
@@ -56,8 +57,8 @@ status_of state n d = reply.Status (state_number state) (because n d)
 -- "6. Contents." "CALL PROCEEDING: N6 to N9, T310." ("T310 10,000") "CONNECT: N6 or N9 to N10, reply CONNECT ACKNOWLEDGE, notice 2."
 -- "CONNECT ACKNOWLEDGE: N10, nothing." "RELEASE COMPLETE: gone." RELEASE, STATUS ENQUIRY and STATUS as above
 abbrev pub contents_verdict : Kind → List ℕ → State → ℕ → Verdict
-contents_verdict kind.CallProceeding m state reading = moved (N9 (reading + t310)) reply.None 0
-contents_verdict kind.Connect m state reading = moved N10 reply.ConnectAcknowledge 2
+contents_verdict kind.CallProceeding m state reading = moved (N9 (reading + t310)) reply.None None
+contents_verdict kind.Connect m state reading = moved N10 reply.ConnectAcknowledge (Some notice.Answered)
 contents_verdict kind.ConnectAcknowledge m state reading = silent
 contents_verdict kind.Release m state reading = ended (release_reply state (cause_in m 9))
 contents_verdict kind.ReleaseComplete m state reading = ended reply.None

@@ -18,7 +18,7 @@ use calls::{State, T310};
 use elements::{CallStateRead, CauseRead};
 use header::Header;
 use replies::{Diagnostic, Reply};
-use verdicts::{Verdict, answered, because, ended, moved, plain_cause};
+use verdicts::{Notice, Verdict, answered, because, ended, moved, plain_cause};
 
 // What a message is to a live call.
 #[derive(Clone, Copy)]
@@ -119,8 +119,8 @@ fn judge_contents(kind: Kind, m: &[u8], state: State, reading: u64) -> Verdict
     ensures { result ≡ contents_verdict kind m.now state reading }
 {
     match kind {
-        Kind::CallProceeding => moved(State::N9(reading + T310), Reply::None, 0),
-        Kind::Connect => moved(State::N10, Reply::ConnectAcknowledge, 2),
+        Kind::CallProceeding => moved(State::N9(reading + T310), Reply::None, None),
+        Kind::Connect => moved(State::N10, Reply::ConnectAcknowledge, Some(Notice::Answered)),
         Kind::ConnectAcknowledge => answered(Reply::None),
         Kind::Release => ended(release_reply(m, state)),
         Kind::ReleaseComplete => ended(Reply::None),

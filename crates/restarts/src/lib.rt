@@ -15,7 +15,7 @@ ghost use Rattle.elements.specs.Values.{connection_in, restart_in};
 ghost use Rattle.restarts.specs.User.{restart_status, restarting, pair_restart, restart_effect};
 ghost use Rattle.restarts.specs.Own.{Fits, named_by, restart_of, requested, ending, is_class, is_connection, is_same, acknowledge_effect, expire_second, expire_effect, put_back};
 
-use channels::{Named, Pool};
+use channels::{Named, Pair, Pool};
 use effects::{Change, Effect, Ending, quiet, replying};
 use elements::{ConnectionRead, RestartRead};
 use replies::{Diagnostic, Outgoing, Reply};
@@ -45,25 +45,25 @@ fn restarting(named: Named, reply: Reply) -> Effect
 }
 
 // A pair that no RESTART is acted on.
-fn is_barred(pool: Pool, vpci: u16, vci: u16) -> bool
-    ensures { result ≡ (ltb vci 32 || permanent pool vpci vci) }
+fn is_barred(pool: Pool, pair: Pair) -> bool
+    ensures { result ≡ (ltb pair.vci 32 || permanent pool pair.vpci pair.vci) }
 {
-    if vci < 32 {
-        return true;
-    }
-    pool.is_permanent(vpci, vci)
+    pair.vci < 32 || pool.is_permanent(pair)
 }
 
-fn restart_pair(state: u8, pool: Pool, vpci: u16, vci: u16) -> Effect
-    ensures { result ≡ pair_restart state pool (ConnectionRead.Pair vpci vci) }
+fn restart_pair(state: u8, pool: Pool, pair: Pair) -> Effect
+    ensures { result ≡ pair_restart state pool (ConnectionRead.Pair pair.vpci pair.vci) }
 {
-    if pool.knows_vpci(vpci) {
-        if is_barred(pool, vpci, vci) {
-            return restart_status(state, 82, Diagnostic::Pair(vpci, vci));
-        }
-        return restarting(Named::Pair(vpci, vci), Reply::RestartAcknowledge(vpci, vci));
+    if !pool.knows_vpci(pair.vpci) {
+        return restart_status(state, 100, Diagnostic::Octet(0x5A));
     }
-    restart_status(state, 100, Diagnostic::Octet(0x5A))
+    if is_barred(pool, pair) {
+        return restart_status(state, 82, Diagnostic::Pair(pair.vpci, pair.vci));
+    }
+    restarting(
+        Named::One(pair),
+        Reply::RestartAcknowledge(pair.vpci, pair.vci),
+    )
 }
 
 // For 80: the pair of the Connection identifier.
@@ -73,7 +73,7 @@ fn restart_connection(state: u8, pool: Pool, m: &[u8]) -> Effect
     match elements::connection(m, 9) {
         ConnectionRead::Absent => restart_status(state, 96, Diagnostic::Octet(0x5A)),
         ConnectionRead::Unreadable => restart_status(state, 100, Diagnostic::Octet(0x5A)),
-        ConnectionRead::Pair(vpci, vci) => restart_pair(state, pool, vpci, vci),
+        ConnectionRead::Pair(vpci, vci) => restart_pair(state, pool, Pair { vpci, vci }),
     }
 }
 
@@ -111,7 +111,10 @@ pub fn named_by(target: Target) -> Named
 {
     match target {
         Target::All => Named::All,
-        Target::One(vpci, vci) => Named::Pair(vpci as u16, vci as u16),
+        Target::One(vpci, vci) => Named::One(Pair {
+            vpci: vpci as u16,
+            vci: vci as u16,
+        }),
     }
 }
 
@@ -121,7 +124,7 @@ fn restart_of(named: Named) -> Reply
 {
     match named {
         Named::All => Reply::RestartAll,
-        Named::Pair(vpci, vci) => Reply::Restart(vpci, vci),
+        Named::One(pair) => Reply::Restart(pair.vpci, pair.vci),
     }
 }
 
@@ -162,18 +165,13 @@ fn is_class(m: &[u8], class: u8) -> bool
 }
 
 // If the Connection identifier is this pair.
-fn is_connection(m: &[u8], vpci: u16, vci: u16) -> bool
-    ensures { result ≡ is_connection vpci vci (connection_in m.now 9) }
+fn is_connection(m: &[u8], pair: Pair) -> bool
+    ensures { result ≡ is_connection pair.vpci pair.vci (connection_in m.now 9) }
 {
     match elements::connection(m, 9) {
         ConnectionRead::Absent => false,
         ConnectionRead::Unreadable => false,
-        ConnectionRead::Pair(p, v) => {
-            if p == vpci {
-                return v == vci;
-            }
-            false
-        }
+        ConnectionRead::Pair(p, v) => p == pair.vpci && v == pair.vci,
     }
 }
 
@@ -183,12 +181,7 @@ fn is_same(m: &[u8], named: Named) -> bool
 {
     match named {
         Named::All => is_class(m, 0x82),
-        Named::Pair(vpci, vci) => {
-            if is_class(m, 0x80) {
-                return is_connection(m, vpci, vci);
-            }
-            false
-        }
+        Named::One(pair) => is_class(m, 0x80) && is_connection(m, pair),
     }
 }
 

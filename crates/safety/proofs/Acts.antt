@@ -40,7 +40,7 @@ pub data Acts (t : Table) (e : Event) : Change → Type 0 where
   moves : (i : ℕ) (c : Call) (q r : State) → HasCall t i c q → (¬ NoNotice e → r ≢ N10) → Acts t e (Put i (live_slot c r) 0)
   answers : (i : ℕ) (c : Call) (q : State) → HasCall t i c q → q ≢ N10 → ¬ NoNotice e → Acts t e (Put i (live_slot c N10) 2)
   ends : (i : ℕ) (c : Call) (q : State) → HasCall t i c q → ¬ NoNotice e → Acts t e (Put i no_slot 3)
-  loses : (i : ℕ) (c : Call) (q : State) → HasCall t i c q → ¬ NoNotice e → Acts t e (Doubt i c.pair.vpci c.pair.vci)
+  loses : (i : ℕ) (c : Call) (q : State) → HasCall t i c q → ¬ NoNotice e → Acts t e (Doubt i c.pair)
   restarts : (which : Named) (why : Ending) → ¬ NoNotice e → Acts t e (Restart which why)
   requests : (which : Named) (second : Bool) (d : ℕ) → Acts t e (Request which second d)
   puts_back : Acts t e PutBack

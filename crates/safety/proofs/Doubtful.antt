@@ -6,7 +6,8 @@
 --   doubt_origin        a pair in doubt afterwards was in doubt or held
 --   doubts_sound        afterwards the doubts are as they must be
 -- Assumes nothing.
-use Rattle.std.specs.Prelude.{Some, None}
+use Rattle.verdicts.specs.declared.Notice.{Notice}
+use Rattle.std.specs.Prelude.{Some, None, Option}
 use Prim.Native.Nat.{ℕ, ◌+◌}
 use mathlib.Core.Path.{◌≡◌, refl, sym, ap, ◌∙◌}
 use mathlib.Core.Logic.{◌⊎◌, inl, inr, ◌≢◌}
@@ -60,9 +61,9 @@ Nameable pool (named.One pv) = permitted pool pv.vpci pv.vci ≡ true
 
 pub data Touched (t : Table) (reading : ℕ) : declared.Change → Type 0 where
   keeps : Touched t reading Keep
-  puts : (i : ℕ) (s : Slot) (notice : ℕ) → Touched t reading (Put i s notice)
+  puts : (i : ℕ) (s : Slot) (notice : Option Notice) → Touched t reading (Put i s notice)
   -- the pair of a call that goes begins to be in doubt
-  begins : (i : ℕ) (c : Call) (q : State) → HasCall t i c q → no_room t ≡ false → Touched t reading (Doubt i c.pair.vpci c.pair.vci)
+  begins : (i : ℕ) (c : Call) (q : State) → HasCall t i c q → no_room t ≡ false → Touched t reading (Doubt i c.pair)
   -- doubts end: by a user's RESTART, by the acknowledge of ours, by its second expiry, which marks its pairs
   ends : (which : Named) → Touched t reading (Restart which User)
   acknowledged : (which : Named) → Touched t reading (Restart which Acknowledged)
@@ -156,7 +157,7 @@ module _ (t : Table) (e : Event) (s : Sound t) where
   -- the pair of a call that goes
   module _ (i : ℕ) (c : Call) (q : State) (live : HasCall t i c q) (room : no_room t ≡ false) where
     abbrev w : Table
-    w = table_after t (reading_of e) (Doubt i c.pair.vpci c.pair.vci)
+    w = table_after t (reading_of e) (Doubt i c.pair)
 
     -- a call of the table afterwards is one of the table before, in another slot
     held-before : (p v : ℕ) → Holds w p v → (h : Holds t p v) × (h.slot ≢ i)

@@ -171,7 +171,7 @@ module _ (t : Table) (e : Event) (s : Sound t) where
   pub marks_sound : (x : declared.Change) → Change t e (slots_after x t.slots).all → Touched t (reading_of e) x → MarksSound (table_after t (reading_of e) x)
   marks_sound x change keeps = as_before Keep change keeps refl
   marks_sound x change (puts i a n) = as_before (Put i a n) change (puts i a n) refl
-  marks_sound x change (begins i c q live room) = as_before (Doubt i c.pair.vpci c.pair.vci) change (begins i c q live room) refl
+  marks_sound x change (begins i c q live room) = as_before (Doubt i c.pair) change (begins i c q live room) refl
   marks_sound x change (ends which) = as_before (Restart which User) change (ends which) refl
   marks_sound x change (acknowledged which) = as_before (Restart which Acknowledged) change (acknowledged which) refl
   marks_sound x change (marks which n room) = now_marked which n room change

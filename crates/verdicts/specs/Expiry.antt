@@ -4,7 +4,7 @@
 --   expire                           any timer fires
 --   last_t308                         if the second T308 runs
 -- Assumes nothing.
-use Rattle.std.specs.Prelude.{ℕ, ◌+◌, Bool, true, false, cond}
+use Rattle.std.specs.Prelude.{ℕ, ◌+◌, Bool, true, false, cond, None}
 use Rattle.calls.specs.declared.State.{State}
 use Rattle.calls.specs.declared.State.TheVariants.{N3, N6, N9, N10, N12}
 use Rattle.calls.specs.declared.Clearing.{Clearing}
@@ -25,11 +25,11 @@ clearing reading second cause expired = N12 (record { second = second; cause = c
 
 abbrev pub released : ℕ → Bool → ℕ → Bool → Verdict
 released reading second cause expired =
-    moved (clearing reading second cause expired) (reply.Release (because cause (diagnosed expired))) 0
+    moved (clearing reading second cause expired) (reply.Release (because cause (diagnosed expired))) None
 
 -- document 02, R-2: "with 64, a second expiry keeps the call in N12 and starts T308 again, sending nothing"
 abbrev pub waiting : ℕ → Clearing → Verdict
-waiting reading k = moved (clearing reading true k.cause k.expired) reply.None 0
+waiting reading k = moved (clearing reading true k.cause k.expired) reply.None None
 
 -- "T308 30,000: first, RELEASE with the first cause and diagnostic again and T308; second, gone." (document 02, R-2: in doubt; full:
 -- there are 64 pairs in doubt)

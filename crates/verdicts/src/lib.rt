@@ -1,4 +1,5 @@
 // What becomes of a call, and what a clear by the host and a firing timer make of it.
+//   Notice                    what the host is told of a call
 //   Fate, Verdict             what becomes of a call; that with the reply
 //   because, plain_cause      a cause with its diagnostic, and one without
 //   answered, moved, ended    the call stays; it goes to another state; it is gone
@@ -8,17 +9,38 @@
 
 ghost use Rattle.std.specs.Prelude.{◌≡◌, ◌≤◌};
 ghost use Rattle.calls.specs.Timers.{largest_reading};
-ghost use Rattle.verdicts.specs.Verdict.{because, plain_cause, answered, moved, ended, lost};
+ghost use Rattle.verdicts.specs.Verdict.{notice_number, because, plain_cause, answered, moved, ended, lost};
 ghost use Rattle.verdicts.specs.Expiry.{diagnosed, released, waiting, expire_clearing, expire};
 
 use calls::{Clearing, State, T308};
 use replies::{Cause, Diagnostic, Reply};
 
+// What the host is told of a call: it is asked, it is answered, it is gone.
+#[derive(Clone, Copy, PartialEq, Eq)]
+pub enum Notice {
+    Asked,
+    Answered,
+    Gone,
+}
+
+impl Notice {
+    // The paper's number of a notice.
+    pub fn number(self) -> u8
+        ensures { result ≡ notice_number (Some self) }
+    {
+        match self {
+            Notice::Asked => 1,
+            Notice::Answered => 2,
+            Notice::Gone => 3,
+        }
+    }
+}
+
 // What becomes of a call. `To`: it goes to a state, with this notice. `InDoubt`: it is gone, and its pair is in doubt.
 #[derive(Clone, Copy)]
 pub enum Fate {
     Stay,
-    To(State, u8),
+    To(State, Option<Notice>),
     Gone,
     InDoubt,
 }
@@ -33,10 +55,7 @@ pub struct Verdict {
 pub fn because(number: u8, diagnostic: Diagnostic) -> Cause
     ensures { result ≡ because number diagnostic }
 {
-    Cause {
-        number: number,
-        diagnostic: diagnostic,
-    }
+    Cause { number, diagnostic }
 }
 
 // A cause without a diagnostic.
@@ -52,17 +71,17 @@ pub fn answered(reply: Reply) -> Verdict
 {
     Verdict {
         fate: Fate::Stay,
-        reply: reply,
+        reply,
     }
 }
 
 // The call goes to another state.
-pub fn moved(state: State, reply: Reply, notice: u8) -> Verdict
+pub fn moved(state: State, reply: Reply, notice: Option<Notice>) -> Verdict
     ensures { result ≡ moved state reply notice }
 {
     Verdict {
         fate: Fate::To(state, notice),
-        reply: reply,
+        reply,
     }
 }
 
@@ -72,7 +91,7 @@ pub fn ended(reply: Reply) -> Verdict
 {
     Verdict {
         fate: Fate::Gone,
-        reply: reply,
+        reply,
     }
 }
 
@@ -90,9 +109,10 @@ fn diagnosed(expired: bool) -> Diagnostic
     ensures { result ≡ diagnosed expired }
 {
     if expired {
-        return Diagnostic::Timer;
+        Diagnostic::Timer
+    } else {
+        Diagnostic::None
     }
-    Diagnostic::None
 }
 
 // RELEASE is sent, and T308 runs.
@@ -101,15 +121,15 @@ pub fn release(reading: u64, second: bool, cause: u8, expired: bool) -> Verdict
     ensures { result ≡ released reading second cause expired }
 {
     let clearing = Clearing {
-        second: second,
-        cause: cause,
-        expired: expired,
+        second,
+        cause,
+        expired,
     };
     let diagnostic = diagnosed(expired);
     moved(
         State::N12(clearing, reading + T308),
         Reply::Release(because(cause, diagnostic)),
-        0,
+        None,
     )
 }
 
@@ -120,23 +140,23 @@ fn wait(reading: u64, clearing: Clearing) -> Verdict
 {
     let again = Clearing {
         second: true,
-        cause: clearing.cause,
-        expired: clearing.expired,
+        ..clearing
     };
-    moved(State::N12(again, reading + T308), Reply::None, 0)
+    moved(State::N12(again, reading + T308), Reply::None, None)
 }
 
 fn expire_clearing(clearing: Clearing, reading: u64, full: bool) -> Verdict
     requires { reading ≤ largest_reading }
     ensures { result ≡ expire_clearing full clearing reading }
 {
-    if clearing.second {
-        if full {
-            return wait(reading, clearing);
-        }
-        return lost();
+    if !clearing.second {
+        return release(reading, true, clearing.cause, clearing.expired);
     }
-    release(reading, true, clearing.cause, clearing.expired)
+    if full {
+        wait(reading, clearing)
+    } else {
+        lost()
+    }
 }
 
 // The timer of a call in this state fires; `full`: there is no room for a doubt.
@@ -145,10 +165,9 @@ pub fn expire(state: State, reading: u64, full: bool) -> Verdict
     ensures { result ≡ expire full state reading }
 {
     match state {
-        State::N3 => answered(Reply::None),
+        State::N3 | State::N10 => answered(Reply::None),
         State::N6(_) => ended(Reply::None),
         State::N9(_) => release(reading, false, 102, true),
-        State::N10 => answered(Reply::None),
         State::N12(clearing, _) => expire_clearing(clearing, reading, full),
     }
 }

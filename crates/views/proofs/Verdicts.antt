@@ -7,6 +7,8 @@
 --   judged             what a message does, in the view
 --   expired            what a firing timer does, in the view
 -- Assumes nothing.
+use Rattle.std.specs.Prelude.{Some, None}
+use Rattle.verdicts.specs.declared.Notice.TheVariants as notice
 use Prim.Native.Nat.{ℕ, ◌+◌}
 use mathlib.Core.Path.{◌≡◌, refl}
 use mathlib.Core.Bool.{Bool, true, false, cond}
@@ -57,8 +59,8 @@ pub data Says (q : State) (k : ℕ) : Reply → Type 0 where
 -- what a message of type k decides
 pub data Heard (reading k : ℕ) (q : State) : Verdict → Type 0 where
   says : (a : Reply) → Says q k a → Heard reading k q (answered a)
-  to_N9 : (d : ℕ) → q ≡ N6 d → Heard reading k q (moved (N9 (reading + t310)) reply.None 0)
-  to_N10 : Asked q → Heard reading k q (moved N10 reply.ConnectAcknowledge 2)
+  to_N9 : (d : ℕ) → q ≡ N6 d → Heard reading k q (moved (N9 (reading + t310)) reply.None None)
+  to_N10 : Asked q → Heard reading k q (moved N10 reply.ConnectAcknowledge (Some notice.Answered))
   by_release : (m : List ℕ) → Heard reading k q (ended (release_reply q (cause_in m 9)))
   at_once : Heard reading k q (ended reply.None)
 
@@ -66,9 +68,9 @@ pub data Judged (reading : ℕ) (full : Bool) (q : State) : Verdict → Type 0 w
   -- a message, of type k, leaves the call as it is; a timer or a command with nothing to do
   stays : (k : ℕ) (a : Reply) → Says q k a → Judged reading full q (answered a)
   -- CALL PROCEEDING
-  proceeds : (d : ℕ) → q ≡ N6 d → Judged reading full q (moved (N9 (reading + t310)) reply.None 0)
+  proceeds : (d : ℕ) → q ≡ N6 d → Judged reading full q (moved (N9 (reading + t310)) reply.None None)
   -- CONNECT
-  connects : Asked q → Judged reading full q (moved N10 reply.ConnectAcknowledge 2)
+  connects : Asked q → Judged reading full q (moved N10 reply.ConnectAcknowledge (Some notice.Answered))
   -- RELEASE, RELEASE COMPLETE, STATUS with state 0; T303
   releases : (m : List ℕ) → Judged reading full q (ended (release_reply q (cause_in m 9)))
   ends : Judged reading full q (ended reply.None)
