@@ -8,28 +8,29 @@
 // `heard` and `fire` ask for a reading that is not refused. Assumes nothing.
 #![tactic(auto)]
 
-ghost use Rattle.std.specs.Prelude.{◌≡◌, true, ◌&&◌, ◌||◌, not, ◌≤◌, eqb};
+ghost use Rattle.std.specs.Prelude.{◌≡◌, true, ◌&&◌, not, ◌≤◌, eqb};
 ghost use Rattle.calls.specs.Calls.{is_empty};
 ghost use Rattle.calls.specs.Timers.{largest_reading};
 ghost use Rattle.first.specs.First.{place};
 ghost use Rattle.setup.specs.Setup.{admission};
 ghost use Rattle.slots.specs.Timers.{some_due};
 ghost use Rattle.service.specs.Service.{is_waiting};
+ghost use Rattle.verdicts.specs.Verdict.{notice_number};
 ghost use Rattle.effects.specs.Change.{slots_after, flags_of, notice_of};
 ghost use Rattle.effects.specs.Effect.{replying};
 ghost use Rattle.restarts.specs.Own.{expire_effect};
 ghost use Rattle.table.specs.Effects.{read_at, with_slot, with_doubt, restarted, requesting, putting_back, table_after, free_pair, on_pair, admitted, setup_effect, on_no_call, on_hold, global_effect, message_effect, fire_hold, request_first, fired_slot, fired_request, tick_effect, due_after};
 
-use calls::{Call, Due, Hold, Slot, State};
-use channels::{Channel, Named, Pool};
+use calls::{Call, Hold, Slot, State, is_due};
+use channels::{Named, Pair, Pool};
 use effects::{Change, Effect, Ending, assign, on_call, quiet, replying};
-use first::Found;
 use header::Header;
 use pairs::Pairs;
 use replies::{Cause, Outgoing, Reply};
 use service::{Global, GlobalState, OutOfService};
 use setup::Admission;
-use slots::{Flags, Slots, Soonest, Spot};
+use slots::{Flags, Slots, Timer};
+use verdicts::Notice;
 
 // The table: the slots of calls, the last accepted reading, the pairs in doubt, the state of the global call reference, the pairs
 // out of service, and the pool of channels.
@@ -54,23 +55,14 @@ pub struct Fired {
 fn is_restart(head: Header) -> bool
     ensures { result ≡ (eqb head.kind 0x46 && not head.flag) }
 {
-    if head.kind == 0x46 {
-        return !head.flag;
-    }
-    false
+    head.kind == 0x46 && !head.flag
 }
 
 // RESTART ACKNOWLEDGE with flag 1, while our RESTART is under way.
 fn is_acknowledge(head: Header, state: GlobalState) -> bool
     ensures { result ≡ ((eqb head.kind 0x4E && head.flag) && is_waiting state) }
 {
-    if head.kind == 0x4E {
-        if head.flag {
-            return state.is_waiting();
-        }
-        return false;
-    }
-    false
+    head.kind == 0x4E && head.flag && state.is_waiting()
 }
 
 // RELEASE COMPLETE for a SETUP.
@@ -81,27 +73,19 @@ fn refuse_setup(reference: u32, why: Cause) -> Effect
 }
 
 // An admitted SETUP with an empty slot: it gets the pair, where there is one.
-fn set_up_on(reference: u32, i: usize, pair: Channel) -> Effect
-    ensures { result ≡ on_pair reference i pair }
+fn set_up_on(reference: u32, i: usize, free: Option<Pair>) -> Effect
+    ensures { result ≡ on_pair reference i free }
 {
-    match pair {
-        Channel::None => refuse_setup(reference, verdicts::plain_cause(45)),
-        Channel::Pair(vpci, vci) => {
-            let call = Call {
-                network: false,
-                vpci: vpci,
-                vci: vci,
-                reference: reference,
-            };
-            assign(
-                i,
-                call,
-                State::N3,
-                true,
-                Outgoing::Reply(Reply::CallProceeding(vpci, vci)),
-            )
-        }
-    }
+    let Some(pair) = free else {
+        return refuse_setup(reference, verdicts::plain_cause(45));
+    };
+    let call = Call {
+        network: false,
+        pair,
+        reference,
+    };
+    let reply = Reply::CallProceeding(pair.vpci, pair.vci);
+    assign(i, call, State::N3, true, Outgoing::Reply(reply))
 }
 
 // A message on the call of a slot.
@@ -109,8 +93,7 @@ fn on_slot(m: &[u8], head: Header, reading: u64, i: usize, slot: Slot) -> Effect
     requires { reading ≤ largest_reading }
     ensures { result ≡ on_hold m.now head reading i slot.hold }
 {
-    let hold = slot.hold;
-    match hold {
+    match slot.hold {
         Hold::Empty => quiet(),
         Hold::Live(call, state) => on_call(
             i,
@@ -140,30 +123,14 @@ fn fire_slot(full: bool, reading: u64, i: usize, hold: Hold) -> Effect
 }
 
 // If T316 is due, and sooner than the soonest timer of a slot.
-fn is_first(soonest: Soonest, due: Due, reading: u64) -> bool
+fn is_first(soonest: Option<Timer>, due: Option<u64>, reading: u64) -> bool
     ensures { result ≡ request_first reading soonest due }
 {
-    match due {
-        Due::Never => false,
-        Due::At(deadline) => {
-            if reading < deadline {
-                return false;
-            }
-            match soonest {
-                Soonest::Nothing => true,
-                Soonest::Timer(_, least, _) => deadline < least,
-            }
-        }
+    match (due, soonest) {
+        (None, _) => false,
+        (Some(deadline), None) => deadline <= reading,
+        (Some(deadline), Some(timer)) => deadline <= reading && deadline < timer.deadline,
     }
-}
-
-fn is_either(a: bool, b: bool) -> bool
-    ensures { result ≡ (a || b) }
-{
-    if a {
-        return true;
-    }
-    b
 }
 
 // The slots after a change.
@@ -171,12 +138,10 @@ fn slots_after(slots: Slots, change: Change) -> Slots
     ensures { result ≡ slots_after change slots }
 {
     match change {
-        Change::Keep => slots,
+        Change::Keep | Change::Request(_, _, _) | Change::PutBack => slots,
         Change::Put(i, slot, _) => slots.with_slot(i, slot),
-        Change::Doubt(i, _, _) => slots.with_slot(i, Slot::empty()),
+        Change::Doubt(i, _) => slots.with_slot(i, Slot::empty()),
         Change::Restart(named, _) => slots.without(named),
-        Change::Request(_, _, _) => slots,
-        Change::PutBack => slots,
     }
 }
 
@@ -185,48 +150,44 @@ impl Table {
     fn at(self, reading: u64) -> Table
         ensures { result ≡ read_at self reading }
     {
-        let mut table = self;
-        table.last = reading;
-        table
+        Table {
+            last: reading,
+            ..self
+        }
     }
 
     // One slot is changed.
     fn put(self, reading: u64, i: usize, slot: Slot) -> Table
         ensures { result ≡ with_slot self reading i slot }
     {
-        let mut table = self;
-        table.last = reading;
-        let slots = table.slots;
-        table.slots = slots.with_slot(i, slot);
-        table
+        Table {
+            slots: self.slots.with_slot(i, slot),
+            last: reading,
+            ..self
+        }
     }
 
     // A pair is in doubt.
-    fn doubt(self, vpci: u16, vci: u16) -> Table
-        ensures { result ≡ with_doubt self vpci vci }
+    fn doubt(self, pair: Pair) -> Table
+        ensures { result ≡ with_doubt self pair.vpci pair.vci }
     {
-        let mut table = self;
-        let doubts = table.doubts;
-        table.doubts = doubts.with(vpci, vci);
-        table
+        Table {
+            doubts: self.doubts.with(pair),
+            ..self
+        }
     }
 
     // The calls on the pairs that are named go, and these pairs are not in doubt.
     fn restart(self, reading: u64, named: Named, why: Ending) -> Table
         ensures { result ≡ restarted self reading named why }
     {
-        let slots = self.slots;
-        let doubts = self.doubts;
-        let global = self.global;
-        let out = self.out;
-        let pool = self.pool;
         Table {
-            slots: slots.without(named),
+            slots: self.slots.without(named),
             last: reading,
-            doubts: doubts.unless_named(named),
-            global: effects::global_after(why, global),
-            out: effects::out_after(why, named, out),
-            pool: pool,
+            doubts: self.doubts.unless_named(named),
+            global: effects::global_after(why, self.global),
+            out: effects::out_after(why, named, self.out),
+            pool: self.pool,
         }
     }
 
@@ -234,23 +195,23 @@ impl Table {
     fn request(self, reading: u64, named: Named, second: bool, deadline: u64) -> Table
         ensures { result ≡ requesting self reading named second deadline }
     {
-        let mut table = self;
-        table.last = reading;
         let state = GlobalState::RestartRequest(named, second, deadline);
-        let global = Global { state: state };
-        table.global = global;
-        table
+        Table {
+            last: reading,
+            global: Global { state },
+            ..self
+        }
     }
 
     // No pair is out of service.
     fn put_back(self, reading: u64) -> Table
         ensures { result ≡ putting_back self reading }
     {
-        let mut table = self;
-        table.last = reading;
-        let out = OutOfService::none();
-        table.out = out;
-        table
+        Table {
+            last: reading,
+            out: OutOfService::none(),
+            ..self
+        }
     }
 
     // A change is performed, and the reading is stored: the one way in which a table changes.
@@ -260,10 +221,7 @@ impl Table {
         match change {
             Change::Keep => self.at(reading),
             Change::Put(i, slot, _) => self.put(reading, i, slot),
-            Change::Doubt(i, vpci, vci) => {
-                let emptied = self.put(reading, i, Slot::empty());
-                emptied.doubt(vpci, vci)
-            }
+            Change::Doubt(i, pair) => self.put(reading, i, Slot::empty()).doubt(pair),
             Change::Restart(named, why) => self.restart(reading, named, why),
             Change::Request(named, second, deadline) => self.request(
                 reading, named, second, deadline,
@@ -277,60 +235,47 @@ impl Table {
         ensures { result ≡ flags_of change self.slots }
     {
         match change {
-            Change::Keep => Flags::none(),
             Change::Put(i, _, notice) => effects::flag_slot(notice, i),
-            Change::Doubt(i, _, _) => Flags::only(i),
-            Change::Restart(named, _) => {
-                let slots = self.slots;
-                slots.named(named)
-            }
-            Change::Request(_, _, _) => Flags::none(),
-            Change::PutBack => Flags::none(),
+            Change::Doubt(i, _) => Flags::only(i),
+            Change::Restart(named, _) => self.slots.named(named),
+            Change::Keep | Change::Request(_, _, _) | Change::PutBack => Flags::none(),
         }
     }
 
     // The notice of a change: of a RESTART, only if some call goes.
-    pub fn notice(self, change: Change) -> u8
-        ensures { result ≡ notice_of change (flags_of change self.slots) }
+    pub fn notice(self, change: Change) -> Option<Notice>
+        ensures { notice_number result ≡ notice_of change (flags_of change self.slots) }
     {
         match change {
-            Change::Keep => 0,
             Change::Put(_, _, notice) => notice,
-            Change::Doubt(_, _, _) => 3,
-            Change::Restart(named, _) => {
-                let slots = self.slots;
-                if slots.any_named(named) {
-                    return 3;
-                }
-                0
-            }
-            Change::Request(_, _, _) => 0,
-            Change::PutBack => 0,
+            Change::Doubt(_, _) => Some(Notice::Gone),
+            Change::Restart(named, _) if self.slots.any_named(named) => Some(Notice::Gone),
+            Change::Restart(_, _) => None,
+            Change::Keep | Change::Request(_, _, _) | Change::PutBack => None,
         }
     }
 
     // The lowest free permitted pair.
-    pub fn free_pair(self) -> Channel
+    pub fn free_pair(self) -> Option<Pair>
         ensures { result ≡ free_pair self }
     {
-        let slots = self.slots;
-        let doubts = self.doubts;
-        let global = self.global;
-        let out = self.out;
-        let pool = self.pool;
-        let state = global.state;
-        let finding = search::find_free(pool, slots, doubts, out, state);
-        finding.found
+        search::find_free(
+            self.pool,
+            self.slots,
+            self.doubts,
+            self.out,
+            self.global.state,
+        )
+            .found
     }
 
     // An admitted SETUP: it gets the lowest empty slot, where there is one.
     fn set_up_admitted(self, reference: u32) -> Effect
         ensures { result ≡ admitted self reference (place is_empty self.slots.all) }
     {
-        let slots = self.slots;
-        match slots.lowest_empty() {
-            Found::Nothing => refuse_setup(reference, verdicts::plain_cause(47)),
-            Found::At(i) => set_up_on(reference, i, self.free_pair()),
+        match self.slots.lowest_empty() {
+            None => refuse_setup(reference, verdicts::plain_cause(47)),
+            Some(i) => set_up_on(reference, i, self.free_pair()),
         }
     }
 
@@ -347,28 +292,23 @@ impl Table {
     fn on_no_call(self, m: &[u8], head: Header) -> Effect
         ensures { result ≡ on_no_call self m.now head }
     {
-        if head.kind == 0x05 {
-            if head.flag {
-                return quiet();
-            }
-            if head.whole {
-                return self.set_up(m, head.reference);
-            }
+        if head.kind != 0x05 {
+            return replying(!head.flag, head.reference, judging::no_call_reply(m, head));
+        }
+        if head.flag || !head.whole {
             return quiet();
         }
-        replying(!head.flag, head.reference, judging::no_call_reply(m, head))
+        self.set_up(m, head.reference)
     }
 
     // A message on the global reference.
     fn on_global(self, m: &[u8], head: Header) -> Effect
         ensures { result ≡ global_effect self m.now head }
     {
-        let pool = self.pool;
-        let global = self.global;
-        let state = global.state;
+        let state = self.global.state;
         if is_restart(head) {
             if head.whole {
-                return restarts::restart(state.number(), pool, m);
+                return restarts::restart(state.number(), self.pool, m);
             }
             return quiet();
         }
@@ -386,35 +326,33 @@ impl Table {
         requires { reading ≤ largest_reading }
         ensures { result ≡ message_effect self m.now head reading }
     {
-        let slots = self.slots;
         if head.reference == 0 {
             return self.on_global(m, head);
         }
-        match slots.find(head.flag, head.reference) {
-            Spot::Nothing => self.on_no_call(m, head),
-            Spot::At(i, slot) => on_slot(m, head, reading, i, slot),
+        match self.slots.find(head.flag, head.reference) {
+            None => self.on_no_call(m, head),
+            Some((i, slot)) => on_slot(m, head, reading, i, slot),
         }
     }
 
     // The timer of a slot, which is the soonest; T316 may be due too.
-    fn fire_soonest(self, reading: u64, soonest: Soonest) -> Fired
+    fn fire_soonest(self, reading: u64, soonest: Option<Timer>) -> Fired
         requires { reading ≤ largest_reading }
         ensures { result ≡ fired_slot self reading soonest }
     {
-        let slots = self.slots;
-        let doubts = self.doubts;
-        let global = self.global;
-        let state = global.state;
-        let due = state.due();
         match soonest {
-            Soonest::Nothing => Fired {
+            None => Fired {
                 effect: quiet(),
                 more: false,
             },
-            Soonest::Timer(i, _, another) => Fired {
-                effect: fire_slot(doubts.is_full(), reading, i, slots.hold_at(i as u64)),
-                more: is_either(another, due.by(reading)),
-            },
+            Some(timer) => {
+                let i = timer.slot;
+                let hold = self.slots.hold_at(i as u64);
+                Fired {
+                    effect: fire_slot(self.doubts.is_full(), reading, i, hold),
+                    more: timer.another || is_due(self.global.state.due(), reading),
+                }
+            }
         }
     }
 
@@ -423,15 +361,10 @@ impl Table {
         requires { reading ≤ largest_reading }
         ensures { result ≡ fired_request self reading }
     {
-        let slots = self.slots;
-        let global = self.global;
-        let out = self.out;
-        let state = global.state;
-        let effect = restarts::expire(state, out, reading);
-        let change = effect.change;
-        let left = slots_after(slots, change);
+        let effect = restarts::expire(self.global.state, self.out, reading);
+        let left = slots_after(self.slots, effect.change);
         Fired {
-            effect: effect,
+            effect,
             more: left.is_some_due(reading),
         }
     }
@@ -441,12 +374,8 @@ impl Table {
         requires { reading ≤ largest_reading }
         ensures { (result.effect ≡ tick_effect self reading) × (result.more ≡ due_after self reading (tick_effect self reading).change) }
     {
-        let slots = self.slots;
-        let global = self.global;
-        let state = global.state;
-        let due = state.due();
-        let soonest = slots.soonest(reading);
-        if is_first(soonest, due, reading) {
+        let soonest = self.slots.soonest(reading);
+        if is_first(soonest, self.global.state.due(), reading) {
             return self.fire_request(reading);
         }
         self.fire_soonest(reading, soonest)
