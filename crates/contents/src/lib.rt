@@ -18,13 +18,7 @@ use octets::octet_at;
 pub fn cause_fits(c: &[u8]) -> bool
     ensures { result ≡ cause_fits c.now }
 {
-    if c.len() < 2 {
-        return false;
-    }
-    if c[0] < 128 {
-        return false;
-    }
-    128 <= c[1]
+    2 <= c.len() && 128 <= c[0] && 128 <= c[1]
 }
 
 pub fn cause_number(c: &[u8]) -> u8
@@ -37,10 +31,7 @@ pub fn cause_number(c: &[u8]) -> u8
 pub fn call_state_fits(c: &[u8]) -> bool
     ensures { result ≡ call_state_fits c.now }
 {
-    if c.len() != 1 {
-        return false;
-    }
-    c[0] <= 63
+    c.len() == 1 && c[0] <= 63
 }
 
 pub fn call_state(c: &[u8]) -> u8
@@ -59,10 +50,7 @@ pub struct Connection {
 pub fn connection_fits(c: &[u8]) -> bool
     ensures { result ≡ connection_fits c.now }
 {
-    if c.len() != 5 {
-        return false;
-    }
-    c[0] == 0x88
+    c.len() == 5 && c[0] == 0x88
 }
 
 pub fn connection_in(c: &[u8]) -> Connection
@@ -70,24 +58,14 @@ pub fn connection_in(c: &[u8]) -> Connection
 {
     let vpci = octets::number(octet_at(c, 1), octet_at(c, 2));
     let vci = octets::number(octet_at(c, 3), octet_at(c, 4));
-    Connection {
-        vpci: vpci,
-        vci: vci,
-    }
+    Connection { vpci, vci }
 }
 
 // 79 Restart indicator.
 pub fn restart_fits(c: &[u8]) -> bool
     ensures { result ≡ restart_fits c.now }
 {
-    if c.len() != 1 {
-        return false;
-    }
-    match c[0] {
-        0x80 => true,
-        0x82 => true,
-        _ => false,
-    }
+    c.len() == 1 && matches!(c[0], 0x80 | 0x82)
 }
 
 pub fn restart_class(c: &[u8]) -> u8

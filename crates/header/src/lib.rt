@@ -20,20 +20,14 @@ pub struct Header {
 fn reference(top: u8, middle: u8, bottom: u8) -> u32
     ensures { result ≡ (top % 128) * 65536 + middle * 256 + bottom }
 {
-    ((top % 128) as u32) * 65536 + (middle as u32) * 256 + (bottom as u32)
+    u32::from_be_bytes([0, top % 128, middle, bottom])
 }
 
 // None: the message is ignored.
 pub fn read(m: &[u8]) -> Option<Header>
     ensures { result ≡ head_of m.now }
 {
-    if m.len() < 9 {
-        return None;
-    }
-    if m[0] != 0x09 {
-        return None;
-    }
-    if m[1] != 0x03 {
+    if m.len() < 9 || m[0] != 0x09 || m[1] != 0x03 {
         return None;
     }
     let size = octets::number(m[7], m[8]) as usize;

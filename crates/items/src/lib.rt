@@ -4,7 +4,7 @@
 //   whole                  are the octets a whole number of elements?
 // `m` is any octets, and `from` the place of the first element: 9 in a message, 0 in an offer's body.
 // Nothing has a `requires`. Assumes nothing.
-#![tactic(auto)]
+#![tactic(auto, using(crate::proofs::Items::met, crate::proofs::Items::moved))]
 
 ghost use Rattle.std.specs.Prelude.{◌≡◌, ◌≤◌, cond, eqb};
 ghost use Rattle.items.specs.Items.{item_at, items, first_of, count_of, whole_from};
@@ -21,10 +21,7 @@ pub enum Item {
 pub fn item_at(m: &[u8], at: usize) -> Item
     ensures { result ≡ item_at m.now at }
 {
-    if m.len() < 4 {
-        return Item::End;
-    }
-    if m.len() - 4 < at {
+    if m.len() < 4 || m.len() - 4 < at {
         return Item::End;
     }
     let start = at + 4;
@@ -42,19 +39,9 @@ pub fn first_of(m: &[u8], from: usize, id: u8) -> Item
     let mut at = from;
     loop {
         match item_at(m, at) {
-            Item::End => return Item::End,
-            Item::Overrun(met) => {
-                if met == id {
-                    return Item::Overrun(met);
-                }
-                return Item::End;
-            }
-            Item::Whole(met, action, start, end) => {
-                if met == id {
-                    return Item::Whole(met, action, start, end);
-                }
-                at = end;
-            }
+            Item::Overrun(met) if met != id => return Item::End,
+            Item::Whole(met, _, _, end) if met != id => at = end,
+            found => return found,
         }
     }
 }
@@ -64,10 +51,7 @@ fn one_if(met: u8, id: u8) -> usize
     ensures value { result ≡ cond (eqb met id) 1 0 }
     ensures bound { result ≤ 1 }
 {
-    if met == id {
-        return 1;
-    }
-    0
+    usize::from(met == id)
 }
 
 // How many elements of an identifier there are.
@@ -97,9 +81,7 @@ pub fn whole(m: &[u8], from: usize) -> bool
         match item_at(m, at) {
             Item::End => return at == m.len(),
             Item::Overrun(_) => return false,
-            Item::Whole(_, _, _, end) => {
-                at = end;
-            }
+            Item::Whole(_, _, _, end) => at = end,
         }
     }
 }

@@ -4,7 +4,8 @@
 --   bearer_fits, multipoint  5E Bearer capability
 --   called_fits              70 Called number
 -- A value is that of readable contents; an octet that is not there counts as 0. Assumes nothing.
-use Rattle.std.specs.Prelude.{ℕ, ◌-◌, ◌%◌, Bool, true, false, ◌&&◌, ◌||◌, cond, List, [], ◌∷◌, eqb, leb, length, get_or, drop}
+use Rattle.std.specs.Prelude.{ℕ, ◌-◌, ◌%◌, Bool, false, ◌&&◌, ◌||◌, cond, List, eqb, leb, length, get_or, drop}
+use Rattle.std.specs.List.{list_all}
 use Rattle.octets.specs.Octets.{top_bit}
 
 -- "5C QoS: 2, each 0 to 4."
@@ -30,8 +31,7 @@ multipoint c = eqb (get_or c (length c - 1) 0 % 4) 1
 
 -- "70 Called number: 91 and 1 to 15 digits 30 to 39, or 82 and 20 octets."
 abbrev pub digits : List ℕ → Bool
-digits [] = true
-digits (o ∷ os) = leb 0x30 o && leb o 0x39 && digits os
+digits = list_all (λ o. leb 0x30 o && leb o 0x39)
 
 abbrev pub called_fits : List ℕ → Bool
 called_fits c =

@@ -1,18 +1,16 @@
 -- Laws of stores one after the other. Every writer of every crate cites `chain`, every reply `chained`, and a loop that writes texts or elements `Begun`.
 --   sets-append     a run of stores, then another behind it, is the run of both
---   sets_one_more   one store more
 --   chain           two writers, the second where the first ended
 --   chained         a run from place 0 that fits fills the front
 --   wrote_none      a writer that puts nothing
 --   Begun, begun-none, begun_more, begun_all     a run that is written piece by piece: a part is written, and the rest is left
 -- Assumes nothing.
-use Prim.Native.Nat.{ℕ, suc, ◌+◌, ◌≤◌, ◌<◌}
+use Prim.Native.Nat.{ℕ, suc, ◌+◌, ◌≤◌}
 use mathlib.Core.Path.{◌≡◌, refl, sym, ap, ◌∙◌}
 use mathlib.Core.List.{List, [], ◌∷◌, ◌++◌, append_assoc, append-nil}
 use native.Mathlib.Omega.{arith}
-use native.Mathlib.Numerals.{add-one}
-use lib.ListN.{length, take, drop, set, get_or, length-append, length-take}
-use lib.Seq.{sets, sets-eq, take-suc}
+use lib.ListN.{length, drop, set, length-append}
+use lib.Seq.{sets, sets-eq}
 use Rattle.octets.specs.Octets.{Wrote, front}
 
 pub sets-append : (vs ws l : List ℕ) (i : ℕ) → sets l i (vs ++ ws) ≡ sets (sets l i vs) (i + length vs) ws
@@ -22,12 +20,6 @@ sets-append [] ws l i =
 sets-append (v ∷ vs) ws l i =
     let e : suc i + length vs ≡ i + suc (length vs) = omega arith in
     sets-append vs ws (set l i v) (suc i) ∙ ap (λ (k : ℕ). sets (sets (set l i v) (suc i) vs) k ws) e
-
--- the copying loop's step: the first i octets are stored, and now the next
-pub sets_one_more : (l s : List ℕ) (at i : ℕ) → i < length s → sets l at (take (i + 1) s) ≡ set (sets l at (take i s)) (at + i) (get_or s i 0)
-sets_one_more l s at i h =
-    let n : length (take i s) ≡ i = simp length-take (omega arith) in
-    rw (add-one, take-suc s i 0 h, sets-append (take i s) (get_or s i 0 ∷ []) l at, n)
 
 pub chain : {l vs l₁ ws l₂ : List ℕ} {i j k : ℕ} → Wrote l i vs l₁ j → Wrote l₁ j ws l₂ k → Wrote l i (vs ++ ws) l₂ k
 chain {l} {vs} {l₁} {ws} {l₂} {i} a b =

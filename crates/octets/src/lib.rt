@@ -14,41 +14,28 @@ ghost use Rattle.octets.specs.Octets.{number, equal, Wrote};
 pub fn wide(octet: u8) -> usize
     ensures { result ≡ octet }
 {
-    octet as usize
+    usize::from(octet)
 }
 
 // A 16-bit number from its two octets.
 pub fn number(high: u8, low: u8) -> u16
     ensures { result ≡ number high low }
 {
-    (high as u16) * 256 + (low as u16)
+    u16::from_be_bytes([high, low])
 }
 
 // The octet at a place, 0 where there is none.
 pub fn octet_at(c: &[u8], at: usize) -> u8
     ensures { result ≡ get_or c.now at 0 }
 {
-    if at < c.len() {
-        return c[at];
-    }
-    0
+    c.get(at).copied().unwrap_or(0)
 }
 
 // If two runs have the same octets.
 pub fn same(a: &[u8], b: &[u8]) -> bool
     ensures { result ≡ equal a.now b.now }
 {
-    if a.len() != b.len() {
-        return false;
-    }
-    let mut i: usize = 0;
-    while i < a.len() {
-        if a[i] != b[i] {
-            return false;
-        }
-        i += 1;
-    }
-    true
+    a == b
 }
 
 // Writes all of `octets` at place `at` of the room, and answers the place behind them.
@@ -57,10 +44,7 @@ pub fn put(room: &mut [u8], at: usize, octets: &[u8]) -> usize
     ensures next { result ≡ at + length octets.now }
     ensures stored { Wrote room.old at octets.now room.new result }
 {
-    let mut i: usize = 0;
-    while i < octets.len() {
-        room[at + i] = octets[i];
-        i += 1;
-    }
-    at + i
+    let end = at + octets.len();
+    room[at..end].copy_from_slice(octets);
+    end
 }

@@ -6,13 +6,13 @@
 --   has_subfield, traffic_allowed     the traffic rule
 -- Assumes nothing.
 use Rattle.std.specs.Prelude.{ℕ, ◌+◌, ◌-◌, Bool, true, false, ◌&&◌, ◌||◌, not, cond, List, [], ◌∷◌, eqb, leb, ltb, length, get_or}
+use Rattle.std.specs.List.{list_any}
 use Rattle.traffic.specs.declared.Subfield.{Subfield}
 use Rattle.traffic.specs.declared.Subfield.TheVariants.{End, Broken, Whole}
 use Rattle.traffic.specs.Walk.{walk}
 
 abbrev pub member : ℕ → List ℕ → Bool
-member n [] = false
-member n (m ∷ ms) = eqb n m || member n ms
+member n = list_any (λ m. eqb n m)
 
 -- "subfields 82 83 84 85 88 89 90 91 A0 A1 B0 B1 with 3 octets, BE with none, BF with 1"
 abbrev pub rates : List ℕ

@@ -5,7 +5,7 @@
 //   traffic_fits      are the contents readable?
 //   traffic_allowed   does the traffic rule allow it?
 // Assumes nothing.
-#![tactic(auto)]
+#![tactic(auto, using(crate::proofs::Subfields::met, crate::proofs::Subfields::moved, crate::proofs::Subfields::repeated))]
 
 ghost use Rattle.std.specs.Prelude.{◌≡◌};
 ghost use Rattle.traffic.specs.Traffic.{span, subfield_at, subfields, identifiers, traffic_fits, has_subfield, with_best_effort, any_other, traffic_allowed, member};
@@ -30,30 +30,19 @@ const WITH_BEST_EFFORT: [u8; 4] = [0x84, 0x85, 0xBE, 0xBF];
 pub fn listed(numbers: &[u8], n: u8) -> bool
     ensures { result ≡ member n numbers.now }
 {
-    let mut i: usize = 0;
-    while i < numbers.len() {
-        if n == numbers[i] {
-            return true;
-        }
-        i += 1;
-    }
-    false
+    numbers.contains(&n)
 }
 
 // The octets of a subfield, its identifier among them; 0 for one that is not listed.
 fn span(id: u8) -> usize
     ensures { result ≡ span id }
 {
-    if listed(&RATES, id) {
-        return 4;
+    match id {
+        0xBE => 1,
+        0xBF => 2,
+        _ if listed(&RATES, id) => 4,
+        _ => 0,
     }
-    if id == 0xBE {
-        return 1;
-    }
-    if id == 0xBF {
-        return 2;
-    }
-    0
 }
 
 pub fn subfield_at(c: &[u8], at: usize) -> Subfield
@@ -64,10 +53,7 @@ pub fn subfield_at(c: &[u8], at: usize) -> Subfield
     }
     let id = c[at];
     let n = span(id);
-    if n == 0 {
-        return Subfield::Broken;
-    }
-    if c.len() - at < n {
+    if n == 0 || c.len() - at < n {
         return Subfield::Broken;
     }
     Subfield::Whole(id, at + n)
@@ -80,8 +66,7 @@ fn has_from(c: &[u8], from: usize, id: u8) -> bool
     let mut at = from;
     loop {
         match subfield_at(c, at) {
-            Subfield::End => return false,
-            Subfield::Broken => return false,
+            Subfield::End | Subfield::Broken => return false,
             Subfield::Whole(met, next) => {
                 if id == met {
                     return true;
@@ -131,8 +116,7 @@ fn any_other(c: &[u8]) -> bool
     let mut at: usize = 0;
     loop {
         match subfield_at(c, at) {
-            Subfield::End => return false,
-            Subfield::Broken => return false,
+            Subfield::End | Subfield::Broken => return false,
             Subfield::Whole(id, next) => {
                 if !with_best_effort(id) {
                     return true;
@@ -147,14 +131,5 @@ fn any_other(c: &[u8]) -> bool
 pub fn traffic_allowed(c: &[u8]) -> bool
     ensures { result ≡ traffic_allowed c.now }
 {
-    if !has_subfield(c, 0x84) {
-        return false;
-    }
-    if !has_subfield(c, 0x85) {
-        return false;
-    }
-    if !has_subfield(c, 0xBE) {
-        return true;
-    }
-    !any_other(c)
+    has_subfield(c, 0x84) && has_subfield(c, 0x85) && !(has_subfield(c, 0xBE) && any_other(c))
 }

@@ -1,21 +1,18 @@
--- `octets::put` meets its contract. The loop's invariant: the room holds what came in, with the octets passed stored one after the other.
-use borrow.Author.Rules.{rules}
-use native.Mathlib.Omega.{arith}
-use mathlib.Core.Path.{◌≡◌, ◌∙◌}
-use lib.ListN.{length, take}
-use lib.Seq.{take-length, length-sets}
-use Rattle.octets.proofs.Stores.{sets_one_more}
+-- `octets::put` meets its contract: the part that was copied over is what stores one after the other leave. Assumes nothing.
+use Rattle.std.proofs.Common.{◌≡◌, ◌-◌, ◌+◌, arith, ◌∙◌, refl, length, append_assoc}
+use Rattle.std.proofs.lemmas.List.Edits.{sets-eq, paste_all}
+use Rattle.std.proofs.lemmas.Slice.{put_mid-paste}
 use Rattle.octets.proofs.put.Goals as goal
 
-pub bounds-room-at : goal.bounds-room-at
-bounds-room-at c = rw c.loop-i.invariant.1 (rw (length-sets c.args.room.now c.args.at (take c.loop-i.i c.args.octets.now)) (omega arith))
-
-pub loop-i-preserved : goal.loop-i-preserved
-loop-i-preserved c = (search rules, rw (c.loop-i.invariant.1, sets_one_more c.args.room.now c.args.octets.now c.args.at c.loop-i.i (omega arith)))
-
-pub shape_of-room : goal.shape_of-room
-shape_of-room c = rw c.loop-i.invariant.1 (simp length-sets)
-
-pub returns : goal.returns
-returns c = let all : c.loop-i.i ≡ length c.args.octets.now = omega arith in
-    record { next = omega arith; stored = record { run = c.loop-i.invariant.1 ∙ rw (all, take-length c.args.octets.now); past = omega arith } }
+pub returns-clause-stored : goal.returns-clause-stored
+returns-clause-stored c =
+    let room = c.args.room.now in
+    let octets = c.args.octets.now in
+    let at = c.args.at in
+    let whole : length octets ≡ at + length octets - at = omega arith in
+    record {
+      run = put_mid-paste at (at + length octets - at) room c.copy_from_slice.new.self octets _ c.copy_from_slice.ensures.after whole refl
+          ∙ paste_all room at octets _ refl
+          ∙ rw (sets-eq octets room at c.requires, append_assoc);
+      past = refl;
+    }
