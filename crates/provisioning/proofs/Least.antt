@@ -6,7 +6,7 @@
 -- Assumes nothing.
 use Rattle.std.specs.Prelude.{Option, Some}
 use Prim.Native.Nat.{ℕ, zero, suc, ◌+◌, ◌-◌, ◌*◌, ◌/◌, ◌≤◌, ◌<◌}
-use mathlib.Core.Path.{◌≡◌, refl}
+use mathlib.Core.Path.{◌≡◌, refl, sym}
 use mathlib.Core.Logic.{⊎_elim}
 use mathlib.Core.Bool.{Bool, true, false}
 use mathlib.Core.List.{List, [], ◌∷◌}
@@ -18,6 +18,7 @@ use Rattle.channels.specs.Channels.{pair, in_range, in_ranges, scan, lowest}
 use Rattle.channels.specs.declared.Pair.{Pair}
 use Rattle.channels.specs.declared.Range.{Range}
 use Rattle.channels.proofs.Cases.{by_test, clash, both}
+use Rattle.channels.proofs.Parts.{pair_parts}
 use Rattle.channels.proofs.Lowest.{Scanned, within, within_in, scan_pair}
 use Rattle.provisioning.specs.Provisioning.{before, fits, ascending, range_at, range_ok, numbered, provision}
 use Rattle.provisioning.proofs.Below.{below_at}
@@ -49,8 +50,8 @@ scan-least t q rest (suc n) w p v u e low high f =
     (λ other. scan-least t q rest n (w + 1) p v u (rw named at e) (omega (arith, eqb-false w u other)) (omega arith) f))
     (λ free.
     let found : Some (pair q w) ≡ Some (pair p v) = rw free at e in
-    let here : w ≡ v = cc in
-    (cc, omega arith))
+    let here : w ≡ v = (pair_parts found).1 in
+    (sym (pair_parts found).0, omega arith))
 
 pub lowest-least : (t : ℕ → ℕ → Bool) (rs : List Range) (p v q w : ℕ) → Sorted rs → lowest t rs ≡ Some (pair p v) → in_ranges q w rs ≡ true → t q w ≡ false
     → order p v ≤ order q w

@@ -14,7 +14,7 @@
 ghost use Rattle.std.specs.Prelude.{◌≡◌, ◌/◌, length};
 ghost use Rattle.provisioning.specs.Provisioning.{before, apart, range_at, single_at, entry_at, range_ok, fits, ascending, ranges_ok, pairs_ok, pool_of, provision, provision_of};
 
-use channels::{Channel, Entry, Pool, Range};
+use channels::{Pair, Pool, Range};
 
 // If the pair (p, v) comes before the pair (q, w).
 pub fn before(p: u16, v: u16, q: u16, w: u16) -> bool
@@ -67,16 +67,17 @@ pub fn single_at(s: &[u16], k: usize) -> Range
 }
 
 // The k-th pair, or none.
-pub fn entry_at(s: &[u16], k: usize) -> Entry
+pub fn entry_at(s: &[u16], k: usize) -> Option<Pair>
     ensures { result ≡ entry_at s.now k }
 {
     if k < s.len() / 2 {
         let at = k * 2;
-        let pair = Channel::Pair(s[at], s[at + 1]);
-        return Entry { channel: pair };
+        return Some(Pair {
+            vpci: s[at],
+            vci: s[at + 1],
+        });
     }
-    let none = Channel::None;
-    Entry { channel: none }
+    None
 }
 
 // VPCI 0 to 255, VCI 32 to 65535, first at most last.
