@@ -2,7 +2,7 @@
 --   two, four, eight              a number in two octets, in four and in eight, high octet first
 --   field                         a tag, the length of the contents, the contents
 --   range_octets                   a permitted range
---   channel_octets, channel_octets    a permanent pair
+--   pair_octets, channel_octets     a pair; a permanent pair, or none
 --   reference_octets, state_octets, call_octets     a live call
 --   hold_field                     the field of a slot, none for an empty one
 --   named_octets, request_octets    our RESTART
@@ -38,13 +38,14 @@ field tag contents = tag ∷ (two (length contents) ++ contents)
 abbrev pub range_octets : Range → List ℕ
 range_octets r = cond (leb r.first r.last) (two r.vpci ++ (two r.first ++ two r.last)) []
 
+-- VPCI, VCI
+abbrev pub pair_octets : Pair → List ℕ
+pair_octets c = two c.vpci ++ two c.vci
+
 -- "one for permanent pairs": VPCI, VCI
 abbrev pub channel_octets : Option Pair → List ℕ
 channel_octets None = []
-channel_octets (Some pv) = two pv.vpci ++ two pv.vci
-
-abbrev pub channel_octets : Option Pair → List ℕ
-channel_octets e = channel_octets e
+channel_octets (Some c) = pair_octets c
 
 -- a flagged reference: the top bit is set for a network-originated call, the other 23 bits are the value
 abbrev pub reference_octets : Bool → ℕ → List ℕ
@@ -59,7 +60,7 @@ state_octets N10 = 10 ∷ []
 state_octets (N12 k d) = 12 ∷ (eight d ++ (cond k.second 2 1 ∷ k.cause ∷ []))
 
 abbrev pub call_octets : ℕ → Call → State → List ℕ
-call_octets slot c q = slot ∷ (reference_octets c.network c.reference ++ (two c.pair.vpci ++ (two c.pair.vci ++ state_octets q)))
+call_octets slot c q = slot ∷ (reference_octets c.network c.reference ++ (pair_octets c.pair ++ state_octets q))
 
 -- a live call's field
 abbrev pub hold_field : ℕ → Hold → List ℕ
@@ -69,7 +70,7 @@ hold_field slot (Live c q) = field 4 (call_octets slot c q)
 -- our RESTART (document 02, R-4): if the first or the second T316 runs, its deadline, and for one pair VPCI and VCI
 abbrev pub named_octets : Named → List ℕ
 named_octets named.All = []
-named_octets (named.One pv) = two pv.vpci ++ two pv.vci
+named_octets (named.One c) = pair_octets c
 
 abbrev pub request_octets : GlobalState → List ℕ
 request_octets Null = []

@@ -10,10 +10,10 @@
 
 ghost use Rattle.std.specs.Prelude.{◌≡◌, cond, ◌∷◌, ◌+◌, ◌≤◌, length};
 ghost use Rattle.octets.specs.Octets.{Wrote};
-ghost use Rattle.fields.specs.Fields.{two, four, eight, field, range_octets, channel_octets, reference_octets, state_octets, call_octets, hold_field, named_octets, request_octets};
+ghost use Rattle.fields.specs.Fields.{two, four, eight, field, range_octets, pair_octets, channel_octets, reference_octets, state_octets, call_octets, hold_field, named_octets, request_octets};
 
 use calls::{Call, Hold, State};
-use channels::{Channel, Named, Range};
+use channels::{Named, Pair, Range};
 use service::GlobalState;
 
 // A number in two octets.
@@ -95,18 +95,25 @@ pub fn put_range(room: &mut [u8], at: usize, range: Range) -> usize
     put_two(room, third, range.last)
 }
 
+// A pair: VPCI and VCI.
+fn put_pair(room: &mut [u8], at: usize, pair: Pair) -> usize
+    requires { at + 4 ≤ length room.old }
+    ensures wrote { Wrote room.old at (pair_octets pair) room.new result }
+    ensures next { result ≡ at + 4 }
+{
+    let second = put_two(room, at, pair.vpci);
+    put_two(room, second, pair.vci)
+}
+
 // A permanent pair; nothing for none.
-pub fn put_channel(room: &mut [u8], at: usize, channel: Channel) -> usize
+pub fn put_channel(room: &mut [u8], at: usize, channel: Option<Pair>) -> usize
     requires { at + 4 ≤ length room.old }
     ensures wrote { Wrote room.old at (channel_octets channel) room.new result }
     ensures short { (result ≡ at + length (channel_octets channel)) × (result ≤ at + 4) }
 {
     match channel {
-        Channel::None => at,
-        Channel::Pair(vpci, vci) => {
-            let second = put_two(room, at, vpci);
-            put_two(room, second, vci)
-        }
+        None => at,
+        Some(pair) => put_pair(room, at, pair),
     }
 }
 
@@ -172,9 +179,8 @@ fn put_call(room: &mut [u8], at: usize, slot: u8, call: Call, state: State) -> u
 {
     let second = octets::put(room, at, &[slot]);
     let third = put_reference(room, second, call.network, call.reference);
-    let fourth = put_two(room, third, call.vpci);
-    let fifth = put_two(room, fourth, call.vci);
-    put_state(room, fifth, state)
+    let fourth = put_pair(room, third, call.pair);
+    put_state(room, fourth, state)
 }
 
 // The field of a slot; nothing for an empty one.
@@ -201,10 +207,7 @@ fn put_named(room: &mut [u8], at: usize, named: Named) -> usize
 {
     match named {
         Named::All => at,
-        Named::Pair(vpci, vci) => {
-            let second = put_two(room, at, vpci);
-            put_two(room, second, vci)
-        }
+        Named::One(pair) => put_pair(room, at, pair),
     }
 }
 

@@ -11,7 +11,7 @@ ghost use Rattle.provisioning.specs.Provisioning.{provision, provision_of};
 ghost use Rattle.reading.specs.Reading.{two_at, four_at, eight_at, rest, least, list_in, range_numbers, pair_numbers, pairs_in, out_in, named_in, request_in, clearing_in, state_in, reference_in, call_in, begins, slot_in, behind_slot, slots_in, table_with};
 
 use calls::{Call, Clearing, Slot, State};
-use channels::{Named, Pool};
+use channels::{Named, Pair, Pool};
 use pairs::{Pairs, ROOM};
 use service::{Global, GlobalState, OutOfService};
 use slots::{SLOTS, Slots};
@@ -80,10 +80,7 @@ fn least(a: usize, b: usize) -> usize
     ensures value { result ≡ least a b }
     ensures small { result ≤ a }
 {
-    if a < b {
-        return a;
-    }
-    b
+    a.min(b)
 }
 
 // The numbers of the field at a place, at most so many.
@@ -93,10 +90,8 @@ fn list_in(form: &[u8], at: usize, most: usize) -> List
     ensures few { (result.n ≤ 16) × (length result.numbers ≡ 16) }
 {
     let mut numbers = [0u16; 16];
-    let mut k: usize = 0;
-    while k < 16 {
+    for k in 0..16 {
         numbers[k] = two_in(form, at, 3 + k * 2);
-        k += 1;
     }
     let size = two_in(form, at, 1) as usize;
     List {
@@ -122,10 +117,8 @@ fn pairs_in(form: &[u8], at: usize, from: usize) -> Pairs
     let size = two_in(form, at, 1) as usize;
     let n = least(ROOM, size / 4);
     let mut numbers = [0; ROOM];
-    let mut k: usize = 0;
-    while k < n {
+    for k in 0..n {
         numbers[k] = four_in(form, at, from + k * 4);
-        k += 1;
     }
     Pairs {
         count: n,
@@ -151,7 +144,10 @@ fn named_in(form: &[u8], at: usize) -> Named
     ensures { result ≡ named_in (drop at form.now) }
 {
     if two_in(form, at, 1) == 13 {
-        return Named::Pair(two_in(form, at, 12), two_in(form, at, 14));
+        return Named::One(Pair {
+            vpci: two_in(form, at, 12),
+            vci: two_in(form, at, 14),
+        });
     }
     Named::All
 }
@@ -213,8 +209,10 @@ fn call_in(form: &[u8], at: usize) -> Call
 {
     Call {
         network: 128 <= octet_in(form, at, 4),
-        vpci: two_in(form, at, 7),
-        vci: two_in(form, at, 9),
+        pair: Pair {
+            vpci: two_in(form, at, 7),
+            vci: two_in(form, at, 9),
+        },
         reference: reference_in(form, at),
     }
 }
@@ -258,13 +256,10 @@ fn slots_in(form: &[u8], at: usize) -> Slots
     let empty = Slot::empty();
     let mut all = [empty; SLOTS];
     let mut next = at;
-    let mut i: usize = 0;
-    while i < SLOTS {
+    for i in 0..SLOTS {
         let one = step_in(form, next, i);
-        let slot = one.slot;
-        all[i] = slot;
+        all[i] = one.slot;
         next = one.next;
-        i += 1;
     }
     Slots { all: all }
 }

@@ -1,47 +1,36 @@
--- Laws of the loops over the slots and over pairs.
---   spot_nothing, spot_at        what a spot says of the slot that a search found
---   ascending_here, ascending_not_here, ascending_end     pairs that ascend; what is left of the list is `drop i (listed ps)`
+-- Laws of the loop over pairs: numbers that ascend, where those passed do; what is left begins with the one before the i-th.
+--   ascending_here, ascending_not_here, ascending_end     the i-th is higher than the one before it; it is not; none is left
 -- Assumes nothing.
-use Rattle.std.specs.Prelude.{Option, Some, None}
-use Prim.Native.Nat.{ℕ, ◌+◌, ◌≤◌, ◌<◌}
-use mathlib.Core.Path.{◌≡◌, refl, sym, ap, ◌∙◌}
+use Prim.Native.Nat.{ℕ, suc, ◌+◌, ◌-◌, ◌≤◌, ◌<◌}
+use mathlib.Core.Path.{◌≡◌, sym, ◌∙◌}
 use mathlib.Core.Bool.{true, false}
 use mathlib.Core.List.{List, ◌∷◌}
 use native.Mathlib.Omega.{arith}
-use lib.Dec.{eqb, ltb}
-use lib.ListN.{get_or, drop, drop_of_length-le}
+use lib.Dec.{ltb}
+use lib.ListN.{length, get_or, drop, drop_of_length-le}
+use lib.Seq.{drop-cons}
 use borrow.Author.Tests.{lt-ltb, le-ltb, ltb-true, ltb-false}
 use Rattle.channels.proofs.Cases.{by_test}
-use Rattle.pairs.specs.declared.Pairs.{Pairs}
-use Rattle.pairs.specs.Pairs.{listed, ascending}
-use Rattle.pairs.proofs.Places.{Span, listed_next}
-use Rattle.calls.specs.declared.Slot.{Slot}
-use Rattle.slots.specs.Slots.{spot}
-use Rattle.rules.specs.Rules.{is_at}
+use Rattle.pairs.specs.Pairs.{ascending}
 
-pub spot_nothing : (ss : List Slot) (f : Option ℕ) (slot : ℕ) → spot ss f ≡ None → is_at slot f ≡ false
-spot_nothing ss None slot e = refl
-spot_nothing ss (Some i) slot e = let z : ◌≡◌ {A = ℕ} 0 1 = cc in absurd (omega arith)
+module _ (xs : List ℕ) (i : ℕ) (low : 1 ≤ i) where
+  one_left : i - 1 < length xs → drop (i - 1) xs ≡ get_or xs (i - 1) 0 ∷ drop i xs
+  one_left h = let next : suc (i - 1) ≡ i = omega arith in drop-cons xs (i - 1) 0 h ∙ rw next
 
-pub spot_at : (ss : List Slot) (f : Option ℕ) (slot i : ℕ) (s : Slot) → spot ss f ≡ Some i s → is_at slot f ≡ eqb i slot
-spot_at ss None slot i s e = let z : ◌≡◌ {A = ℕ} 0 1 = cc in absurd (omega arith)
-spot_at ss (Some k) slot i s e = let z : k ≡ i = cc in ap (λ (n : ℕ). eqb n slot) z
+  two_left : i < length xs → drop (i - 1) xs ≡ get_or xs (i - 1) 0 ∷ get_or xs i 0 ∷ drop (suc i) xs
+  two_left h = one_left (omega arith) ∙ rw (drop-cons xs i 0 h)
 
-module _ (ps : Pairs) (n i : ℕ) (s : Span ps n) where
-  two-left : i + 1 < n → drop i (listed ps) ≡ get_or ps.numbers i 0 ∷ get_or ps.numbers (i + 1) 0 ∷ drop (i + 1 + 1) (listed ps)
-  two-left h = listed_next ps n i s (omega arith) ∙ rw (listed_next ps n (i + 1) s h)
+  pub ascending_not_here : i < length xs → get_or xs i 0 ≤ get_or xs (i - 1) 0 → ascending xs ≡ ascending (drop (i - 1) xs) → false ≡ ascending xs
+  ascending_not_here h e left = sym (left ∙ rw (two_left h, le-ltb _ _ e))
 
-  pub ascending_not_here : i + 1 < n → get_or ps.numbers (i + 1) 0 ≤ get_or ps.numbers i 0 → ascending (listed ps) ≡ ascending (drop i (listed ps))
-      → false ≡ ascending (listed ps)
-  ascending_not_here h e left = sym (left ∙ rw (two-left h, le-ltb _ _ e))
+  pub ascending_here : i < length xs → get_or xs (i - 1) 0 < get_or xs i 0 → ascending xs ≡ ascending (drop (i - 1) xs)
+      → ascending xs ≡ ascending (drop ((i + 1) - 1) xs)
+  ascending_here h e left =
+      let same : (i + 1) - 1 ≡ i = omega arith in
+      left ∙ rw (two_left h, lt-ltb _ _ e, same, drop-cons xs i 0 h)
 
-  pub ascending_here : i + 1 < n → get_or ps.numbers i 0 < get_or ps.numbers (i + 1) 0 → ascending (listed ps) ≡ ascending (drop i (listed ps))
-      → ascending (listed ps) ≡ ascending (drop (i + 1) (listed ps))
-  ascending_here h e left = left ∙ rw (two-left h, lt-ltb _ _ e, listed_next ps n (i + 1) s h)
-
-  pub ascending_end : n ≤ i + 1 → ascending (listed ps) ≡ ascending (drop i (listed ps)) → true ≡ ascending (listed ps)
+  pub ascending_end : length xs ≤ i → ascending xs ≡ ascending (drop (i - 1) xs) → true ≡ ascending xs
   ascending_end h left =
-      let size = s.long in
-      by_test (ltb i n)
-      (λ t. sym (left ∙ rw (listed_next ps n i s (ltb-true i n t), drop_of_length-le (listed ps) {i = i + 1} (omega arith))))
-      (λ t. let k = ltb-false i n t in sym (left ∙ rw (drop_of_length-le (listed ps) {i = i} (omega arith))))
+      by_test (ltb (i - 1) (length xs))
+      (λ t. sym (left ∙ rw (one_left (ltb-true (i - 1) (length xs) t), drop_of_length-le xs {i = i} h)))
+      (λ t. let k = ltb-false (i - 1) (length xs) t in sym (left ∙ rw (drop_of_length-le xs {i = i - 1} k)))

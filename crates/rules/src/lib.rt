@@ -5,7 +5,7 @@
 #![tactic(auto)]
 
 ghost use Rattle.std.specs.Prelude.{◌≡◌, ◌≤◌};
-ghost use Rattle.channels.specs.Some.{some_of};
+ghost use Rattle.std.specs.List.{list_any};
 ghost use Rattle.pairs.specs.Pairs.{listed, ascending};
 ghost use Rattle.calls.specs.Calls.{is_call, holds_pair};
 ghost use Rattle.calls.specs.Timers.{largest_reading};
@@ -15,11 +15,10 @@ ghost use Rattle.provisioning.specs.Provisioning.{all_below};
 ghost use Rattle.rules.specs.Rules.{cause_kept, state_kept, is_at, call_kept, slot_kept, is_lost, pairs_kept, all_kept, marks_kept, named_kept, wait_kept, table_kept};
 
 use calls::{Call, Clearing, Hold, State, T303, T308, T310};
-use channels::{Named, Pool};
-use first::Found;
+use channels::{Named, Pair, Pool};
 use pairs::Pairs;
 use service::{GlobalState, T316};
-use slots::{SLOTS, Slots, Spot};
+use slots::{SLOTS, Slots};
 use table::Table;
 
 // The cause of a call that is being cleared.
@@ -27,12 +26,10 @@ fn is_cause_kept(network: bool, clearing: Clearing) -> bool
     ensures { result ≡ cause_kept network clearing }
 {
     if clearing.expired {
-        if network {
-            return clearing.cause == 102;
-        }
-        return false;
+        network && clearing.cause == 102
+    } else {
+        refusals::is_host_cause(clearing.cause as u64)
     }
-    refusals::is_host_cause(clearing.cause as u64)
 }
 
 // A state with its timer, side and cause.
@@ -42,61 +39,36 @@ fn is_state_kept(last: u64, network: bool, state: State) -> bool
 {
     match state {
         State::N3 => !network,
-        State::N6(deadline) => {
-            if network {
-                return deadline <= last + T303;
-            }
-            false
-        }
-        State::N9(deadline) => {
-            if network {
-                return deadline <= last + T310;
-            }
-            false
-        }
+        State::N6(deadline) => network && deadline <= last + T303,
+        State::N9(deadline) => network && deadline <= last + T310,
         State::N10 => true,
         State::N12(clearing, deadline) => {
-            if last + T308 < deadline {
-                return false;
-            }
-            is_cause_kept(network, clearing)
+            deadline <= last + T308 && is_cause_kept(network, clearing)
         }
     }
 }
 
 // The first slot whose call holds a pair.
-fn first_on(slots: Slots, vpci: u16, vci: u16) -> Found
-    ensures { result ≡ place (holds_pair vpci vci) slots.all }
+fn first_on(slots: Slots, pair: Pair) -> Option<usize>
+    ensures { result ≡ place (holds_pair pair.vpci pair.vci) slots.all }
 {
-    let mut i: usize = 0;
-    while i < SLOTS {
-        let slot = slots.all[i];
-        if slot.holds_pair(vpci, vci) {
-            return Found::At(i);
-        }
-        i += 1;
-    }
-    Found::Nothing
+    slots.all.iter().position(|slot| slot.holds_pair(pair))
 }
 
 // If a slot is the first on its pair.
-fn is_first_on(slots: Slots, slot: usize, vpci: u16, vci: u16) -> bool
-    ensures { result ≡ is_at slot (place (holds_pair vpci vci) slots.all) }
+fn is_first_on(slots: Slots, slot: usize, pair: Pair) -> bool
+    ensures { result ≡ is_at slot (place (holds_pair pair.vpci pair.vci) slots.all) }
 {
-    match first_on(slots, vpci, vci) {
-        Found::Nothing => false,
-        Found::At(i) => i == slot,
-    }
+    first_on(slots, pair).is_some_and(|i| i == slot)
 }
 
 // If a slot is the first with its reference.
 fn is_first_with(slots: Slots, slot: usize, network: bool, reference: u32) -> bool
     ensures { result ≡ is_at slot (place (is_call network reference) slots.all) }
 {
-    match slots.find(network, reference) {
-        Spot::Nothing => false,
-        Spot::At(i, _) => i == slot,
-    }
+    slots
+        .place_of(network, reference)
+        .is_some_and(|i| i == slot)
 }
 
 // A call of a slot: its reference, that no slot before has its pair or its reference, its pair, its state.
@@ -104,29 +76,18 @@ fn is_call_kept(table: Table, slot: usize, call: Call, state: State) -> bool
     requires { table.last ≤ largest_reading }
     ensures { result ≡ call_kept table slot call state }
 {
-    if call.reference == 0 {
-        return false;
-    }
-    let slots = table.slots;
-    if !is_first_on(slots, slot, call.vpci, call.vci) {
-        return false;
-    }
-    if !is_first_with(slots, slot, call.network, call.reference) {
-        return false;
-    }
-    let pool = table.pool;
-    if !pool.permits(call.vpci, call.vci) {
-        return false;
-    }
-    is_state_kept(table.last, call.network, state)
+    call.reference != 0
+        && is_first_on(table.slots, slot, call.pair)
+        && is_first_with(table.slots, slot, call.network, call.reference)
+        && table.pool.permits(call.pair)
+        && is_state_kept(table.last, call.network, state)
 }
 
 fn is_slot_kept(table: Table, slot: usize) -> bool
     requires { table.last ≤ largest_reading }
     ensures { result ≡ slot_kept table slot }
 {
-    let slots = table.slots;
-    match slots.hold_at(slot as u64) {
+    match table.slots.hold_at(slot as u64) {
         Hold::Empty => true,
         Hold::Live(call, state) => is_call_kept(table, slot, call, state),
     }
@@ -137,12 +98,10 @@ fn are_slots_kept(table: Table) -> bool
     requires { table.last ≤ largest_reading }
     ensures { result ≡ all_below (slot_kept table) slot_count }
 {
-    let mut i: usize = 0;
-    while i < SLOTS {
+    for i in 0..SLOTS {
         if !is_slot_kept(table, i) {
             return false;
         }
-        i += 1;
     }
     true
 }
@@ -151,96 +110,61 @@ fn are_slots_kept(table: Table) -> bool
 fn is_ascending(pairs: Pairs) -> bool
     ensures { result ≡ ascending (listed pairs) }
 {
-    let n = pairs.size();
-    let mut i: usize = 0;
-    while i + 1 < n {
-        if pairs.numbers[i + 1] <= pairs.numbers[i] {
+    let numbers = pairs.listed();
+    for i in 1..numbers.len() {
+        if numbers[i] <= numbers[i - 1] {
             return false;
         }
-        i += 1;
     }
     true
 }
 
 // If some call holds a pair.
-fn is_held(slots: Slots, vpci: u16, vci: u16) -> bool
-    ensures { result ≡ some_of (holds_pair vpci vci) slots.all }
+fn is_held(slots: Slots, pair: Pair) -> bool
+    ensures { result ≡ list_any (holds_pair pair.vpci pair.vci) slots.all }
 {
-    match first_on(slots, vpci, vci) {
-        Found::Nothing => false,
-        Found::At(_) => true,
-    }
+    slots.all.iter().any(|slot| slot.holds_pair(pair))
 }
 
 // If a pair is not permitted, or a call holds it, or it is one of the others.
 fn is_lost(table: Table, others: Pairs, number: u32) -> bool
     ensures { result ≡ is_lost table others number }
 {
-    let pool = table.pool;
-    let slots = table.slots;
-    let vpci = (number / 65536) as u16;
-    let vci = (number % 65536) as u16;
-    if !pool.permits(vpci, vci) {
-        return true;
-    }
-    if is_held(slots, vpci, vci) {
-        return true;
-    }
-    others.has(vpci, vci)
+    let pair = Pair {
+        vpci: (number / 65536) as u16,
+        vci: (number % 65536) as u16,
+    };
+    !table.pool.permits(pair) || is_held(table.slots, pair) || others.has(pair)
 }
 
 fn is_some_lost(table: Table, others: Pairs, pairs: Pairs) -> bool
-    ensures { result ≡ some_of (is_lost table others) (listed pairs) }
+    ensures { result ≡ list_any (is_lost table others) (listed pairs) }
 {
-    let n = pairs.size();
-    let mut i: usize = 0;
-    while i < n {
-        let number = pairs.numbers[i];
-        if is_lost(table, others, number) {
-            return true;
-        }
-        i += 1;
-    }
-    false
+    pairs
+        .listed()
+        .iter()
+        .any(|number| is_lost(table, others, *number))
 }
 
 // The pairs ascend, and none is lost.
 fn are_pairs_kept(table: Table, others: Pairs, pairs: Pairs) -> bool
     ensures { result ≡ pairs_kept table others pairs }
 {
-    if !is_ascending(pairs) {
-        return false;
-    }
-    !is_some_lost(table, others, pairs)
+    is_ascending(pairs) && !is_some_lost(table, others, pairs)
 }
 
 // With all pairs out of service, none is in doubt, and none is held.
 fn is_all_kept(table: Table) -> bool
     ensures { result ≡ all_kept table }
 {
-    let out = table.out;
-    if out.all {
-        let doubts = table.doubts;
-        if doubts.count == 0 {
-            let slots = table.slots;
-            return !slots.any_named(Named::All);
-        }
-        return false;
-    }
-    true
+    !table.out.all || table.doubts.count == 0 && !table.slots.any_named(Named::All)
 }
 
 // The pairs out of service.
 fn are_marks_kept(table: Table) -> bool
     ensures { result ≡ marks_kept table }
 {
-    let out = table.out;
-    let marks = out.pairs;
-    let doubts = table.doubts;
-    if !are_pairs_kept(table, doubts, marks) {
-        return false;
-    }
-    is_all_kept(table)
+    are_pairs_kept(table, table.doubts, table.out.pairs) && is_all_kept(table)
 }
 
 // One pair that our RESTART names is permitted.
@@ -249,7 +173,7 @@ fn is_named_kept(pool: Pool, named: Named) -> bool
 {
     match named {
         Named::All => true,
-        Named::Pair(vpci, vci) => pool.permits(vpci, vci),
+        Named::One(pair) => pool.permits(pair),
     }
 }
 
@@ -261,10 +185,7 @@ fn is_wait_kept(last: u64, pool: Pool, state: GlobalState) -> bool
     match state {
         GlobalState::Null => true,
         GlobalState::RestartRequest(named, _, deadline) => {
-            if last + T316 < deadline {
-                return false;
-            }
-            is_named_kept(pool, named)
+            deadline <= last + T316 && is_named_kept(pool, named)
         }
     }
 }
@@ -274,20 +195,8 @@ pub fn is_kept(table: Table) -> bool
     requires { table.last ≤ largest_reading }
     ensures { result ≡ table_kept slot_count table }
 {
-    let out = table.out;
-    let marks = out.pairs;
-    let doubts = table.doubts;
-    if !are_pairs_kept(table, marks, doubts) {
-        return false;
-    }
-    if !are_marks_kept(table) {
-        return false;
-    }
-    let global = table.global;
-    let state = global.state;
-    let pool = table.pool;
-    if !is_wait_kept(table.last, pool, state) {
-        return false;
-    }
-    are_slots_kept(table)
+    are_pairs_kept(table, table.out.pairs, table.doubts)
+        && are_marks_kept(table)
+        && is_wait_kept(table.last, table.pool, table.global.state)
+        && are_slots_kept(table)
 }

@@ -8,7 +8,7 @@
 ghost use Rattle.std.specs.Prelude.{◌≡◌, cond, ◌+◌, ◌≤◌, length};
 ghost use Rattle.octets.specs.Octets.{Wrote, front};
 ghost use Rattle.pairs.specs.Pairs.{listed};
-ghost use Rattle.fields.specs.Fields.{four, eight, field, range_octets, entry_octets};
+ghost use Rattle.fields.specs.Fields.{four, eight, field, range_octets, channel_octets};
 ghost use Rattle.saved.specs.Form.{longest, joined, out_octets, call_fields, form_of};
 ghost use Rattle.saved.specs.Saving.{saved_as, saved_of, saved_in};
 
@@ -28,11 +28,8 @@ fn put_ranges(room: &mut [u8], at: usize, pool: Pool) -> usize
     ensures short { result ≤ at + 24 }
 {
     let mut next = at;
-    let mut i: usize = 0;
-    while i < 4 {
-        let range = pool.ranges[i];
-        next = fields::put_range(room, next, range);
-        i += 1;
+    for range in &pool.ranges {
+        next = fields::put_range(room, next, *range);
     }
     next
 }
@@ -40,16 +37,12 @@ fn put_ranges(room: &mut [u8], at: usize, pool: Pool) -> usize
 // The permanent pairs of a pool, one behind the other.
 fn put_permanents(room: &mut [u8], at: usize, pool: Pool) -> usize
     requires { at + 32 ≤ length room.old }
-    ensures wrote { Wrote room.old at (joined entry_octets pool.permanents) room.new result }
+    ensures wrote { Wrote room.old at (joined channel_octets pool.permanents) room.new result }
     ensures short { result ≤ at + 32 }
 {
     let mut next = at;
-    let mut i: usize = 0;
-    while i < 8 {
-        let entry = pool.permanents[i];
-        let channel = entry.channel;
-        next = fields::put_channel(room, next, channel);
-        i += 1;
+    for place in &pool.permanents {
+        next = fields::put_channel(room, next, *place);
     }
     next
 }
@@ -60,13 +53,9 @@ fn put_pairs(room: &mut [u8], at: usize, pairs: Pairs) -> usize
     ensures wrote { Wrote room.old at (joined four (listed pairs)) room.new result }
     ensures short { result ≤ at + 256 }
 {
-    let n = pairs.size();
     let mut next = at;
-    let mut i: usize = 0;
-    while i < n {
-        let number = pairs.numbers[i];
-        next = fields::put_four(room, next, number);
-        i += 1;
+    for number in pairs.listed() {
+        next = fields::put_four(room, next, *number);
     }
     next
 }
@@ -85,7 +74,7 @@ fn put_range_field(room: &mut [u8], at: usize, pool: Pool) -> usize
 // The field of the permanent pairs.
 fn put_permanent_field(room: &mut [u8], at: usize, pool: Pool) -> usize
     requires { at + 35 ≤ length room.old }
-    ensures wrote { Wrote room.old at (field 2 (joined entry_octets pool.permanents)) room.new result }
+    ensures wrote { Wrote room.old at (field 2 (joined channel_octets pool.permanents)) room.new result }
     ensures short { result ≤ at + 35 }
 {
     let mut contents = [0u8; 32];
@@ -149,12 +138,8 @@ fn put_calls(room: &mut [u8], at: usize, slots: Slots) -> usize
     ensures short { result ≤ at + 704 }
 {
     let mut next = at;
-    let mut i: usize = 0;
-    while i < SLOTS {
-        let slot = slots.all[i];
-        let hold = slot.hold;
-        next = fields::put_hold(room, next, i as u8, hold);
-        i += 1;
+    for (i, slot) in slots.all.iter().enumerate() {
+        next = fields::put_hold(room, next, i as u8, slot.hold);
     }
     next
 }

@@ -2,7 +2,7 @@
 //   SLOTS, Slots                  how many there are, and all of them
 //   Timer                         the soonest timer of the slots passed, and if another is due
 //   Flags                         one flag for each slot
-//   Slots::find                   the slot of a call, with its number
+//   Slots::find, place_of         the slot of a call, with its number; the number alone
 //   Slots::lowest_empty           the number of the first empty slot
 //   Slots::hold_at, with_slot     what one slot holds, and one slot changed
 //   Slots::soonest                the timer that a tick fires, and if another is due
@@ -129,7 +129,7 @@ impl Slots {
     }
 
     // The number of the slot of that call.
-    fn place_of(self, network: bool, reference: u32) -> Option<usize>
+    pub fn place_of(self, network: bool, reference: u32) -> Option<usize>
         ensures { result ≡ place (is_call network reference) self.all }
     {
         self.all
