@@ -37,9 +37,9 @@ fn print_elements(rt: &impl Print, m: &[u8]) -> Result<()> {
     found::call_state(rt, m)?;
     found::traffic(rt, m)?;
     found::connection(rt, m)?;
-    found::readable(rt, b'5', b'C', m, 0x5C)?;
+    found::readable(rt, m, 0x5C)?;
     found::bearer(rt, m)?;
-    found::readable(rt, b'7', b'0', m, 0x70)?;
+    found::readable(rt, m, 0x70)?;
     found::restart(rt, m)?;
     found::offer(rt, m)
 }

@@ -12,7 +12,7 @@ ghost use Rattle.explain.specs.Names.{name_in, refusal_names};
 ghost use Rattle.explain.specs.Line.{kind_text, cause_text, flag_text, header_text, found_text, message_text, clear_text, request_text, reply_text, timer_text, call_text, slot_text, same_due, same_state, is_same, is_about, change_text, note_text, slots_text, line_text};
 
 use calls::{Call, Due, Hold, Slot, State};
-use elements::CauseRead;
+use elements::Read;
 use header::{Head, Header};
 use script::Request;
 use slots::{SLOTS, Slots};
@@ -143,9 +143,8 @@ fn put_cause_of(out: &mut [u8], at: usize, m: &[u8]) -> usize
     ensures short { (at ≤ result) × (result ≤ at + 1100) }
 {
     match elements::cause(m, 9) {
-        CauseRead::Absent => at,
-        CauseRead::Unreadable => at,
-        CauseRead::Number(cause) => put_cause(out, at, cause),
+        Read::Readable(cause) => put_cause(out, at, cause),
+        _ => at,
     }
 }
 

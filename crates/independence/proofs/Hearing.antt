@@ -14,6 +14,7 @@ use lib.Dec.{eqb, ltb}
 use lib.ListN.{set}
 use native.Mathlib.Nat.{le_refl}
 use borrow.Author.Tests.{ne_eqb, le-ltb}
+use Rattle.std.specs.Prelude.{Result, Ok, Err, ⊤}
 use Rattle.channels.specs.declared.Channel.{Channel}
 use Rattle.channels.specs.declared.Channel.TheVariants.{None, Pair}
 use Rattle.channels.proofs.Cases.{by_test, clash}
@@ -32,9 +33,8 @@ use Rattle.header.specs.declared.Header.{Header}
 use Rattle.header.specs.declared.Head.{Head}
 use Rattle.header.specs.declared.Head.TheVariants.{Is}
 use Rattle.header.specs.Header.{head_of}
+use Rattle.replies.specs.declared.Cause.{Cause}
 use Rattle.replies.specs.declared.Reply.{Reply}
-use Rattle.setup.specs.declared.Admission.{Admission}
-use Rattle.setup.specs.declared.Admission.TheVariants.{Admitted, Refused}
 use Rattle.setup.specs.Setup.{admission}
 use Rattle.verdicts.specs.declared.Fate.{Fate}
 use Rattle.verdicts.specs.declared.Fate.TheVariants as fate
@@ -96,9 +96,9 @@ module _ (t : Table) (own : Slot → Bool) where
   admit_matches r Nothing e = still_matches true r _
   admit_matches r (At i) e = pair_matches r i (effects.free_pair t) e
 
-  setup_matches : (r : ℕ) (a : Admission) → Matches t own (effects.setup_effect t r a) (set_up r (place is_empty t.slots.all) (effects.free_pair t) a)
-  setup_matches r (Refused c) = still_matches true r _
-  setup_matches r Admitted = admit_matches r (place is_empty t.slots.all) refl
+  setup_matches : (r : ℕ) (a : Result ⊤ Cause) → Matches t own (effects.setup_effect t r a) (set_up r (place is_empty t.slots.all) (effects.free_pair t) a)
+  setup_matches r (Err c) = still_matches true r _
+  setup_matches r (Ok u) = admit_matches r (place is_empty t.slots.all) refl
 
   no_call_matches : (m : List ℕ) (h : Header) → Matches t own (effects.on_no_call t m h) (on_no_call m h (place is_empty t.slots.all) (effects.free_pair t))
   no_call_matches m h =

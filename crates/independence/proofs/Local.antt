@@ -11,6 +11,7 @@ use mathlib.Core.Bool.{Bool, true, false, not, ◌&&◌, ◌||◌}
 use mathlib.Core.List.{List, [], ◌∷◌}
 use lib.Dec.{eqb}
 use borrow.Author.Tests.{eq-eqb}
+use Rattle.std.specs.Prelude.{Result, Ok, Err, ⊤}
 use Rattle.channels.specs.declared.Channel.{Channel}
 use Rattle.channels.specs.declared.Channel.TheVariants.{None, Pair}
 use Rattle.channels.specs.Some.{some_of}
@@ -30,8 +31,7 @@ use Rattle.first.specs.declared.Found.TheVariants.{Nothing, At}
 use Rattle.first.specs.First.{upd}
 use Rattle.first.proofs.First.{Off}
 use Rattle.header.specs.declared.Header.{Header}
-use Rattle.setup.specs.declared.Admission.{Admission}
-use Rattle.setup.specs.declared.Admission.TheVariants.{Admitted, Refused}
+use Rattle.replies.specs.declared.Cause.{Cause}
 use Rattle.setup.specs.Setup.{admission}
 use Rattle.verdicts.specs.declared.Fate.{Fate}
 use Rattle.verdicts.specs.declared.Fate.TheVariants as fate
@@ -56,9 +56,9 @@ module _ (h : Header) (setup : eqb h.kind 0x05 ≡ true) (user : h.flag ≡ fals
   admit_of Nothing c = of_turn _ _
   admit_of (At i) c = pair_of i c
 
-  setup_of : (f : Found) (c : Channel) (a : Admission) → Of h (set_up h.reference f c a)
-  setup_of f c (Refused cause) = of_turn _ _
-  setup_of f c Admitted = admit_of f c
+  setup_of : (f : Found) (c : Channel) (a : Result ⊤ Cause) → Of h (set_up h.reference f c a)
+  setup_of f c (Err cause) = of_turn _ _
+  setup_of f c (Ok u) = admit_of f c
 
 no_call_of : (m : List ℕ) (h : Header) (f : Found) (c : Channel) → Of h (on_no_call m h f c)
 no_call_of m h f c =

@@ -37,11 +37,10 @@ use Rattle.slots.specs.Timers.{some_due, earlier, considered, soonest_from, soon
 use Rattle.header.specs.declared.Header.{Header}
 use Rattle.header.specs.declared.Head.TheVariants.{Is}
 use Rattle.header.specs.Header.{header_in, head_of}
-use Rattle.elements.specs.declared.ConnectionRead.{ConnectionRead}
-use Rattle.elements.specs.declared.ConnectionRead.TheVariants as connection_read
-use Rattle.elements.specs.declared.RestartRead.{RestartRead}
-use Rattle.elements.specs.declared.RestartRead.TheVariants as restart_read
-use Rattle.elements.specs.Values.{connection_in, restart_in}
+use Rattle.elements.specs.declared.Read.{Read}
+use Rattle.contents.specs.declared.Connection.{Connection}
+use Rattle.elements.specs.declared.Read.TheVariants as elem
+use Rattle.elements.specs.Values.{connection_in, restart_in, pair_read}
 use Rattle.replies.specs.declared.Diagnostic.{Diagnostic}
 use Rattle.replies.specs.declared.Diagnostic.TheVariants as diagnostic
 use Rattle.replies.specs.declared.Reply.{Reply}
@@ -206,15 +205,15 @@ same_is : (m : List ℕ) (which : Named) → Same m which → ((header_in m).who
 same_is m which (all whole r) = (whole, rw r)
 same_is m which (one p v whole r c) = (whole, rw (r, c, eq-eqb p p refl, eq-eqb v v refl))
 
-is_class_lem : (class : ℕ) (r : RestartRead) → is_class class r ≡ true → r ≡ restart_read.Class class
-is_class_lem class restart_read.Absent y = clash y refl
-is_class_lem class restart_read.Unreadable y = clash y refl
-is_class_lem class (restart_read.Class k) y = ap restart_read.Class (eqb-true k class y)
+is_class_lem : (class : ℕ) (r : Read ℕ) → is_class class r ≡ true → r ≡ elem.Readable class
+is_class_lem class elem.Absent y = clash y refl
+is_class_lem class elem.Unreadable y = clash y refl
+is_class_lem class (elem.Readable k) y = ap elem.Readable (eqb-true k class y)
 
-is_connection_lem : (p v : ℕ) (c : ConnectionRead) → is_connection p v c ≡ true → c ≡ connection_read.Pair p v
-is_connection_lem p v connection_read.Absent y = clash y refl
-is_connection_lem p v connection_read.Unreadable y = clash y refl
-is_connection_lem p v (connection_read.Pair q w) y = let b = both (eqb q p) (eqb w v) y in rw (eqb-true q p b.0, eqb-true w v b.1)
+is_connection_lem : (p v : ℕ) (c : Read Connection) → is_connection p v c ≡ true → c ≡ pair_read p v
+is_connection_lem p v elem.Absent y = clash y refl
+is_connection_lem p v elem.Unreadable y = clash y refl
+is_connection_lem p v (elem.Readable c) y = let b = both (eqb c.vpci p) (eqb c.vci v) y in rw (sym (eqb-true c.vpci p b.0), sym (eqb-true c.vci v b.1))
 
 is_same_lem : (m : List ℕ) (which : Named) → (header_in m).whole ≡ true → is_same which (restart_in m 9) (connection_in m 9) ≡ true → Same m which
 is_same_lem m All whole y = all whole (is_class_lem 0x82 (restart_in m 9) y)
@@ -348,20 +347,20 @@ module _ (t : Table) (m : List ℕ) (h : Header) where
   status_own : (n : ℕ) (d : Diagnostic) → ShowsOwn (restart_status (global_number t.global.state) n d)
   status_own n d k = shows_number t.global.state
 
-  pair_own : (c : ConnectionRead) → ShowsOwn (pair_restart (global_number t.global.state) t.pool c)
-  pair_own connection_read.Absent = status_own 96 (diagnostic.Octet 0x5A)
-  pair_own connection_read.Unreadable = status_own 100 (diagnostic.Octet 0x5A)
-  pair_own (connection_read.Pair p v) =
-      by_cond ShowsOwn (known_vpci t.pool p) _ _
-      (by_cond ShowsOwn (ltb v 32 || permanent t.pool p v) _ _ (status_own 82 (diagnostic.Pair p v)) (λ k. absurd (omega arith)))
+  pair_own : (c : Read Connection) → ShowsOwn (pair_restart (global_number t.global.state) t.pool c)
+  pair_own elem.Absent = status_own 96 (diagnostic.Octet 0x5A)
+  pair_own elem.Unreadable = status_own 100 (diagnostic.Octet 0x5A)
+  pair_own (elem.Readable c) =
+      by_cond ShowsOwn (known_vpci t.pool c.vpci) _ _
+      (by_cond ShowsOwn (ltb c.vci 32 || permanent t.pool c.vpci c.vci) _ _ (status_own 82 (diagnostic.Pair c.vpci c.vci)) (λ k. absurd (omega arith)))
       (status_own 100 (diagnostic.Octet 0x5A))
 
-  restart_own : (r : RestartRead) (c : ConnectionRead) → ShowsOwn (restart_effect (global_number t.global.state) t.pool r c)
-  restart_own restart_read.Absent c = status_own 96 (diagnostic.Octet 0x79)
-  restart_own restart_read.Unreadable c = status_own 100 (diagnostic.Octet 0x79)
-  restart_own (restart_read.Class k) c = by_cond ShowsOwn (eqb k 0x82) _ _ (λ z. absurd (omega arith)) (pair_own c)
+  restart_own : (r : Read ℕ) (c : Read Connection) → ShowsOwn (restart_effect (global_number t.global.state) t.pool r c)
+  restart_own elem.Absent c = status_own 96 (diagnostic.Octet 0x79)
+  restart_own elem.Unreadable c = status_own 100 (diagnostic.Octet 0x79)
+  restart_own (elem.Readable k) c = by_cond ShowsOwn (eqb k 0x82) _ _ (λ z. absurd (omega arith)) (pair_own c)
 
-  acknowledge_own : (g : GlobalState) (r : RestartRead) (c : ConnectionRead) → ShowsOwn (acknowledge_effect g r c)
+  acknowledge_own : (g : GlobalState) (r : Read ℕ) (c : Read Connection) → ShowsOwn (acknowledge_effect g r c)
   acknowledge_own Null r c = λ z. absurd (omega arith)
   acknowledge_own (RestartRequest which second d) r c = by_cond ShowsOwn (is_same which r c) _ _ (λ z. absurd (omega arith)) (λ z. absurd (omega arith))
 
