@@ -1,20 +1,19 @@
 -- Laws of the two loops that write text.
 --   Spelled, spelled_none, spelled_more, spelled_all   the hex digits of the octets passed are written, and the others are left
---   Joined, joined-none, joined_more, joined_all       the numbers of the slots passed are written, and the others are left
+--   Joined, joined-none, joined_on, joined_off, joined_all       the numbers of the slots passed are written, and the others are left
 -- Assumes nothing.
 use Prim.Native.Nat.{ℕ, ◌+◌, ◌/◌, ◌%◌, ◌≤◌, ◌<◌}
 use native.Mathlib.Omega.{arith}
 use native.Mathlib.Numerals.{add-one}
 use mathlib.Core.Path.{◌≡◌, refl}
-use mathlib.Core.Bool.{Bool, true, false, cond}
+use mathlib.Core.Bool.{Bool, true, false}
 use mathlib.Core.List.{List, [], ◌∷◌}
 use lib.Dec.{eqb}
 use lib.ListN.{length, drop, get_or, set, drop_of_length-le}
 use lib.Seq.{drop-cons}
 use borrow.Author.Tests.{eq-eqb, ne_eqb}
-use Rattle.octets.proofs.Cases.{by_test}
 use Rattle.octets.specs.Octets.{Wrote}
-use Rattle.octets.proofs.Stores.{Begun, begun-none, begun_more, begun_all}
+use Rattle.octets.proofs.Stores.{Begun, begun-none, begun_more, begun_all, wrote_none}
 use Rattle.answers.specs.Text.{hex_glyph, hex_text, slot_text, slots_text}
 
 pub record Spelled (reply old : List ℕ) (at : ℕ) (out : List ℕ) (next i : ℕ) : Type 0 where
@@ -39,16 +38,14 @@ pub joined-none : (on : List Bool) (old : List ℕ) (at : ℕ) → Joined on old
 joined-none on old at = record { so_far = rw (eq-eqb at at refl) (begun-none _ _ _) }
 
 module _ (on : List Bool) (old : List ℕ) (at : ℕ) (out : List ℕ) (next i : ℕ) (s : Joined on old at out next i) where
-  pub joined_more : (new : List ℕ) (end : ℕ) → i < length on → Wrote out next (cond (get_or on i false) (slot_text i (eqb next at)) []) new end
-      → (get_or on i false ≡ true → next < end) → Joined on old at new end (i + 1)
-  joined_more new end h w far = by_test (get_or on i false)
-      (λ e.
-      let f : eqb end at ≡ false = ne_eqb end at (λ q. absurd (omega (arith, far e, s.so_far.wrote.past))) in
-      record { so_far = begun_more s.so_far (rw (drop-cons on i false h, e, f, add-one)) (rw e at w) })
-      (λ e.
-      let w2 : Wrote out next [] new end = rw e at w in
-      let f : end ≡ next = omega (arith, w2.past) in
-      record { so_far = begun_more s.so_far (rw (drop-cons on i false h, e, f, add-one)) w2 })
+  pub joined_on : (new : List ℕ) (end : ℕ) → i < length on → get_or on i false ≡ true → Wrote out next (slot_text i (eqb next at)) new end
+      → next < end → Joined on old at new end (i + 1)
+  joined_on new end h e w far =
+      let f : eqb end at ≡ false = ne_eqb end at (λ q. absurd (omega (arith, s.so_far.wrote.past))) in
+      record { so_far = begun_more s.so_far (rw (drop-cons on i false h, e, f, add-one)) w }
+
+  pub joined_off : i < length on → get_or on i false ≡ false → Joined on old at out next (i + 1)
+  joined_off h e = record { so_far = begun_more s.so_far (rw (drop-cons on i false h, e, add-one)) (wrote_none _ _) }
 
   pub joined_all : length on ≤ i → Wrote old at (slots_text 0 true on) out next
   joined_all h = begun_all s.so_far (rw (drop_of_length-le on {i = i} h))

@@ -9,17 +9,14 @@ ghost use Rattle.std.specs.Prelude.{◌≡◌, true, cond, [], ◌+◌, ◌*◌,
 ghost use Rattle.octets.specs.Octets.{Wrote};
 ghost use Rattle.answers.specs.Text.{hex_glyph, hex_text, reply_text, slot_text, slots_text, flags_text, more_text, first_text, last_text, answer_text};
 
-use slots::{Flags, SLOTS};
+use slots::Flags;
 
 // The hex digit of a number below 16.
 fn glyph(n: u8) -> u8
     requires { n < 16 }
     ensures { result ≡ hex_glyph n }
 {
-    if n < 10 {
-        return 48 + n;
-    }
-    87 + n
+    if n < 10 { b'0' + n } else { b'a' + (n - 10) }
 }
 
 // Octets in hex.
@@ -29,13 +26,10 @@ fn put_digits(out: &mut [u8], at: usize, reply: &[u8]) -> usize
     ensures short { result ≡ at + 2 * length reply.now }
 {
     let mut next = at;
-    let mut i: usize = 0;
-    while i < reply.len() {
-        let octet = reply[i];
-        out[next] = glyph(octet / 16);
-        out[next + 1] = glyph(octet % 16);
+    for octet in reply {
+        out[next] = glyph(*octet / 16);
+        out[next + 1] = glyph(*octet % 16);
         next += 2;
-        i += 1;
     }
     next
 }
@@ -45,10 +39,11 @@ pub fn put_hex(out: &mut [u8], at: usize, reply: &[u8]) -> usize
     ensures wrote { Wrote out.old at (reply_text reply.now) out.new result }
     ensures short { (result ≡ at + length (reply_text reply.now)) × (at ≤ result) × (result ≤ at + 1 + 2 * length reply.now) }
 {
-    if reply.len() == 0 {
-        return octets::put(out, at, b"-");
+    if reply.is_empty() {
+        octets::put(out, at, b"-")
+    } else {
+        put_digits(out, at, reply)
     }
-    put_digits(out, at, reply)
 }
 
 // One slot number, behind a comma if it is not the first.
@@ -57,23 +52,12 @@ fn put_slot(out: &mut [u8], at: usize, i: u8, first: bool) -> usize
     ensures wrote { Wrote out.old at (slot_text i first) out.new result }
     ensures short { (at < result) × (result ≤ at + 4) }
 {
-    if first {
-        return ascii::put_octet(out, at, i);
-    }
-    let next = octets::put(out, at, b",");
+    let next = if first {
+        at
+    } else {
+        octets::put(out, at, b",")
+    };
     ascii::put_octet(out, next, i)
-}
-
-// One slot number, if the slot is flagged.
-fn put_flag(out: &mut [u8], at: usize, i: u8, first: bool, on: bool) -> usize
-    requires { at + 21 ≤ length out.old }
-    ensures wrote { Wrote out.old at (cond on (slot_text i first) []) out.new result }
-    ensures short { (at ≤ result) × (result ≤ at + 4) × (on ≡ true → at < result) }
-{
-    if on {
-        return put_slot(out, at, i, first);
-    }
-    octets::put(out, at, b"")
 }
 
 // The numbers of all flagged slots.
@@ -83,11 +67,10 @@ fn put_slots(out: &mut [u8], at: usize, flags: Flags) -> usize
     ensures short { (at ≤ result) × (result ≤ at + 128) }
 {
     let mut next = at;
-    let mut i: usize = 0;
-    while i < SLOTS {
-        let on = flags.on[i];
-        next = put_flag(out, next, i as u8, next == at, on);
-        i += 1;
+    for (i, on) in flags.on.iter().enumerate() {
+        if *on {
+            next = put_slot(out, next, i as u8, next == at);
+        }
     }
     next
 }
@@ -99,9 +82,10 @@ pub fn put_flags(out: &mut [u8], at: usize, flags: Flags) -> usize
 {
     let end = put_slots(out, at, flags);
     if end == at {
-        return octets::put(out, at, b"-");
+        octets::put(out, at, b"-")
+    } else {
+        end
     }
-    end
 }
 
 fn put_more(out: &mut [u8], at: usize, more: bool) -> usize
@@ -109,10 +93,7 @@ fn put_more(out: &mut [u8], at: usize, more: bool) -> usize
     ensures wrote { Wrote out.old at (more_text more) out.new result }
     ensures short { result ≡ at + 3 }
 {
-    if more {
-        return octets::put(out, at, b" 1\n");
-    }
-    octets::put(out, at, b" 0\n")
+    octets::put(out, at, if more { b" 1\n" } else { b" 0\n" })
 }
 
 // The refusal number and the reply, each with a blank behind it.

@@ -23,5 +23,5 @@ pub fn put_octet(out: &mut [u8], at: usize, n: u8) -> usize
     ensures wrote { Wrote out.old at (decimal_text n) out.new result }
     ensures short { (result ≡ at + length (decimal_text n)) × (at < result) × (result ≤ at + 3) }
 {
-    put_decimal(out, at, n as u64)
+    put_decimal(out, at, u64::from(n))
 }

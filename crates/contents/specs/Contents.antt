@@ -7,7 +7,7 @@
 -- A value is that of readable contents; an octet that is not there counts as 0. Assumes nothing.
 use Rattle.std.specs.Prelude.{ℕ, ◌%◌, Bool, ◌&&◌, ◌||◌, List, eqb, leb, length, get_or}
 use Rattle.octets.specs.Octets.{number, top_bit}
-use Rattle.contents.specs.declared.Connection.{Connection}
+use Rattle.channels.specs.declared.Pair.{Pair}
 
 -- "08 Cause: at least 2; top bit set in each of the first two."
 abbrev pub cause_fits : List ℕ → Bool
@@ -27,7 +27,7 @@ call_state_value c = get_or c 0 0
 abbrev pub connection_fits : List ℕ → Bool
 connection_fits c = eqb (length c) 5 && eqb (get_or c 0 0) 0x88
 
-abbrev pub connection_in : List ℕ → Connection
+abbrev pub connection_in : List ℕ → Pair
 connection_in c = record { vpci = number (get_or c 1 0) (get_or c 2 0); vci = number (get_or c 3 0) (get_or c 4 0) }
 
 -- "79 Restart indicator: 1; 80 (indicated channel) or 82 (all)."

@@ -12,6 +12,7 @@ ghost use Rattle.std.specs.Prelude.{◌≡◌};
 ghost use Rattle.contents.specs.Contents.{cause_fits, cause_number, call_state_fits, call_state_value, connection_fits, connection_in, restart_fits, restart_class};
 ghost use Rattle.contents.specs.Fits.{fits};
 
+use channels::Pair;
 use octets::octet_at;
 
 // 08 Cause.
@@ -41,24 +42,18 @@ pub fn call_state(c: &[u8]) -> u8
 }
 
 // 5A Connection identifier.
-#[derive(Clone, Copy)]
-pub struct Connection {
-    pub vpci: u16,
-    pub vci: u16,
-}
-
 pub fn connection_fits(c: &[u8]) -> bool
     ensures { result ≡ connection_fits c.now }
 {
     c.len() == 5 && c[0] == 0x88
 }
 
-pub fn connection_in(c: &[u8]) -> Connection
+pub fn connection_in(c: &[u8]) -> Pair
     ensures { result ≡ connection_in c.now }
 {
     let vpci = octets::number(octet_at(c, 1), octet_at(c, 2));
     let vci = octets::number(octet_at(c, 3), octet_at(c, 4));
-    Connection { vpci, vci }
+    Pair { vpci, vci }
 }
 
 // 79 Restart indicator.

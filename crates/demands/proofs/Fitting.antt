@@ -13,6 +13,7 @@ use native.Mathlib.Omega.{arith}
 use lib.Dec.{eqb, ltb}
 use lib.ListN.{length, get_or}
 use borrow.Author.Tests.{ltb-false}
+use Rattle.std.specs.Prelude.{Result, Ok, Err, ⊤}
 use Rattle.channels.specs.declared.Named.{Named}
 use Rattle.channels.specs.declared.Named.TheVariants as named
 use Rattle.channels.specs.Channels.{pair, permitted}
@@ -25,13 +26,11 @@ use Rattle.first.specs.First.{place}
 use Rattle.header.specs.declared.Header.{Header}
 use Rattle.header.specs.Header.{header_in}
 use Rattle.items.specs.Items.{whole_from}
-use Rattle.elements.specs.declared.CauseRead.{CauseRead}
-use Rattle.elements.specs.declared.CauseRead.TheVariants as cause_read
-use Rattle.elements.specs.declared.CallStateRead.{CallStateRead}
-use Rattle.elements.specs.declared.CallStateRead.TheVariants as call_state_read
-use Rattle.elements.specs.declared.ConnectionRead.{ConnectionRead}
-use Rattle.elements.specs.declared.RestartRead.{RestartRead}
+use Rattle.elements.specs.declared.Read.{Read}
+use Rattle.elements.specs.declared.Read.TheVariants as elem
+use Rattle.channels.specs.declared.Pair.{Pair}
 use Rattle.elements.specs.Values.{cause_in, call_state_in, connection_in}
+use Rattle.replies.specs.declared.Cause.{Cause}
 use Rattle.replies.specs.declared.Diagnostic.{Diagnostic}
 use Rattle.replies.specs.declared.Diagnostic.TheVariants as diagnostic
 use Rattle.replies.specs.declared.Reply.{Reply}
@@ -42,9 +41,8 @@ use Rattle.replies.specs.Reply.{body_room}
 use Rattle.readback.specs.ReadBack.{Octets}
 use Rattle.readback.specs.Replies.{FitsPair, FitsDiagnostic, FitsCause, Fitting, OfferBody}
 use Rattle.readback.proofs.PairRead.{ReadFits, connection-fits}
-use Rattle.setup.specs.declared.Admission.{Admission}
-use Rattle.setup.specs.declared.Admission.TheVariants.{Admitted, Refused}
-use Rattle.setup.specs.Setup.{absent, broken, found_in, chosen, some_named, multipoint_in, allowed_in, admission}
+use Rattle.elements.specs.Elements.{is_absent, is_unreadable}
+use Rattle.setup.specs.Setup.{found_in, chosen, some_named, multipoint_in, allowed_in, admission}
 use Rattle.setup.specs.Offer.{offer_fits}
 use Rattle.verdicts.specs.declared.Verdict.{Verdict}
 use Rattle.verdicts.specs.Verdict.{because, lost}
@@ -103,12 +101,12 @@ says_fits q k a octet verdict.enquired = status_fits q 30 diagnostic.None (omega
 says_fits q k a octet verdict.unknown = status_fits q 97 (diagnostic.Octet k) (omega arith) octet
 says_fits q k a octet verdict.unexpected = status_fits q 101 (diagnostic.Octet k) (omega arith) octet
 
-complete_fits : (r : CauseRead) → Fitting (release_complete r)
-complete_fits cause_read.Absent = cause-fits 96 (diagnostic.Octet 0x08) (omega arith) (omega arith)
-complete_fits cause_read.Unreadable = cause-fits 100 (diagnostic.Octet 0x08) (omega arith) (omega arith)
-complete_fits (cause_read.Number n) = tt
+complete_fits : (r : Read ℕ) → Fitting (release_complete r)
+complete_fits elem.Absent = cause-fits 96 (diagnostic.Octet 0x08) (omega arith) (omega arith)
+complete_fits elem.Unreadable = cause-fits 100 (diagnostic.Octet 0x08) (omega arith) (omega arith)
+complete_fits (elem.Readable n) = tt
 
-release-fits : (q : State) (r : CauseRead) → Fitting (release_reply q r)
+release-fits : (q : State) (r : Read ℕ) → Fitting (release_reply q r)
 release-fits N3 r = complete_fits r
 release-fits (N6 d) r = complete_fits r
 release-fits (N9 d) r = complete_fits r
@@ -144,10 +142,10 @@ expire-fits last reading full network (N12 k d) s =
 
 -- A message on no call, and on the global reference.
 
-status_reply_fits : (r : CallStateRead) → Fitting (status_reply r)
-status_reply_fits call_state_read.Absent = tt
-status_reply_fits call_state_read.Unreadable = tt
-status_reply_fits (call_state_read.Value s) = verdict.by_cond Fitting (eqb s 0) reply.None _ tt (cause-fits 101 diagnostic.None (omega arith) tt)
+status_reply_fits : (r : Read ℕ) → Fitting (status_reply r)
+status_reply_fits elem.Absent = tt
+status_reply_fits elem.Unreadable = tt
+status_reply_fits (elem.Readable s) = verdict.by_cond Fitting (eqb s 0) reply.None _ tt (cause-fits 101 diagnostic.None (omega arith) tt)
 
 no_call_fits : (m : List ℕ) (h : Header) → Fitting (no_call_reply m h)
 no_call_fits m h =
@@ -164,20 +162,20 @@ global_fits g h =
     (global_state_fits g 101 (diagnostic.Octet 0x4E) (omega arith) (omega arith))
     (global_state_fits g 81 diagnostic.None (omega arith) tt))
 
-abbrev AdmissionFits : Admission → Type 0
-AdmissionFits Admitted = Unit {0}
-AdmissionFits (Refused c) = FitsCause c
+abbrev AdmissionFits : Result ⊤ Cause → Type 0
+AdmissionFits (Ok u) = Unit {0}
+AdmissionFits (Err c) = FitsCause c
 
 admission-fits : (m : List ℕ) (from : ℕ) → AdmissionFits (admission m from)
 admission-fits m from =
-    verdict.by_cond AdmissionFits (some_named (chosen absent (found_in m from))) _ _ (cause-fits 96 _ (omega arith) tt)
-    (verdict.by_cond AdmissionFits (some_named (chosen broken (found_in m from))) _ _ (cause-fits 100 _ (omega arith) tt)
+    verdict.by_cond AdmissionFits (some_named (chosen is_absent (found_in m from))) _ _ (cause-fits 96 _ (omega arith) tt)
+    (verdict.by_cond AdmissionFits (some_named (chosen is_unreadable (found_in m from))) _ _ (cause-fits 100 _ (omega arith) tt)
     (verdict.by_cond AdmissionFits (multipoint_in m (found_in m from).bearer) _ _ (cause-fits 65 diagnostic.None (omega arith) tt)
-    (verdict.by_cond AdmissionFits (allowed_in m (found_in m from).traffic) Admitted _ tt (cause-fits 73 diagnostic.None (omega arith) tt))))
+    (verdict.by_cond AdmissionFits (allowed_in m (found_in m from).traffic) (Ok tt) _ tt (cause-fits 73 diagnostic.None (omega arith) tt))))
 
 -- RESTART.
 
-declined_fits : (g : GlobalState) (c : ConnectionRead) (n : ℕ) (d : Diagnostic) → ReadFits c → view.Declined c n d
+declined_fits : (g : GlobalState) (c : Read Pair) (n : ℕ) (d : Diagnostic) → ReadFits c → view.Declined c n d
     → Fitting (reply.Status (global_number g) (because n d))
 declined_fits g c n d f view.no_class = global_state_fits g 96 (diagnostic.Octet 0x79) (omega arith) (omega arith)
 declined_fits g c n d f view.bad_class = global_state_fits g 100 (diagnostic.Octet 0x79) (omega arith) (omega arith)
@@ -185,7 +183,7 @@ declined_fits g c n d f view.no_pair_lem = global_state_fits g 96 (diagnostic.Oc
 declined_fits g c n d f view.bad_pair = global_state_fits g 100 (diagnostic.Octet 0x5A) (omega arith) (omega arith)
 declined_fits g c n d f (view.barred p v e) = let pair : FitsPair p v = rw e at f in global_state_fits g 82 (diagnostic.Pair p v) (omega arith) pair
 
-acted_fits : (t : Table) (r : RestartRead) (c : ConnectionRead) (which : Named) (a : Reply) → ReadFits c → view.Names t r c which a → Fitting a
+acted_fits : (t : Table) (r : Read ℕ) (c : Read Pair) (which : Named) (a : Reply) → ReadFits c → view.Names t r c which a → Fitting a
 acted_fits t r c which a f (view.all k e y) = tt
 acted_fits t r c which a f (view.one k p v e n g known fair) = rw g at f
 
@@ -261,7 +259,7 @@ module _ (t : Table) (e : Event) (s : Sound t) (references : ReferencesFit t) (o
   does_writable x (view.global m h is) = record { reference = omega arith; fits = global_fits t.global.state h }
   does_writable x (view.refuses m h c is a) =
       let f = message-fits e m h o is.its_message in
-      let cause : AdmissionFits (Refused c) = rw a at (admission-fits m 9) in
+      let cause : AdmissionFits (Err c) = rw a at (admission-fits m 9) in
       record { reference = f.1.reference; fits = cause }
   does_writable x (view.no_slot_lem m h is a f) =
       let header = message-fits e m h o is.its_message in

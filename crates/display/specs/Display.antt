@@ -3,24 +3,21 @@
 --   numbers_text, extent_text, answer_text   the answer line
 --   words_text                             the line for people
 -- Assumes nothing.
-use Rattle.std.specs.Prelude.{ℕ, ◌≤◌, ◌<◌, cond, List, ◌++◌, eqb, ltb, length}
-use Rattle.octets.specs.Octets.{equal}
+use Rattle.std.specs.Prelude.{ℕ, ◌≤◌, ◌<◌, cond, List, ◌++◌, eqb, ltb, length, codes, Option, Some, None}
+use Rattle.std.specs.Str.{bytes_eq}
 use Rattle.ascii.specs.Ascii.{word, decimal_text}
 use Rattle.script.specs.Words.{word_at, end_at}
 use Rattle.answers.specs.Text.{reply_text}
 use Rattle.shown.specs.declared.Extent.{Extent}
 use Rattle.shown.specs.declared.Extent.TheVariants.{Message, Record}
-use Rattle.display.specs.declared.Asked.{Asked}
-use Rattle.display.specs.declared.Asked.TheVariants.{Other, Words}
 
 -- "shown MESSAGE RECORD": behind the first word and its blank, MESSAGE ends at the next blank, and RECORD is the rest
-abbrev pub asked_of : List ℕ → Asked
-asked_of l = cond (equal (word_at l 0) (word "shown")) (cond (ltb (end_at l 6) (length l)) (Words (end_at l 6)) Other) Other
+abbrev pub asked_of : List ℕ → Option ℕ
+asked_of l = cond (bytes_eq (word_at l 0) (codes "shown")) (cond (ltb (end_at l 6) (length l)) (Some (end_at l 6)) None) None
 
--- both words lie within a line of so many octets
-abbrev pub Inside : ℕ → Asked → Type 0
-Inside n Other = Unit {0}
-Inside n (Words second) = (6 ≤ second) × (second < n)
+-- both words lie within a line of so many octets, where MESSAGE ends at that place
+abbrev pub Inside : ℕ → ℕ → Type 0
+Inside n second = (6 ≤ second) × (second < n)
 
 abbrev pub numbers_text : List ℕ → ℕ → ℕ → List ℕ
 numbers_text name at n = (((name ++ decimal_text at) ++ word " ") ++ decimal_text n) ++ word " "

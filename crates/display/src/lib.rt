@@ -1,36 +1,27 @@
 // The line `shown MESSAGE RECORD`: its words found, its answer written, and said for people.
-//   Asked, find     if a line asks whose number is shown, and where its words stand
+//   find            if a line asks whose number is shown, and where its words stand
 //   put_answer      the answer line
 //   put_words       the line for people behind it
 // Each writer writes at a place of a lent buffer, asks for room there, and answers the place behind. Assumes nothing.
 #![tactic(auto)]
 
-ghost use Rattle.std.specs.Prelude.{◌+◌, ◌*◌, ◌≤◌, ◌≡◌, length};
+ghost use Rattle.std.specs.Prelude.{◌+◌, ◌*◌, ◌≤◌, ◌≡◌, length, IfSome};
 ghost use Rattle.octets.specs.Octets.{Wrote};
 ghost use Rattle.display.specs.Display.{asked_of, Inside, numbers_text, extent_text, answer_text, words_text};
 
 use shown::Extent;
 
-// A line that asks something else, or one whose MESSAGE stands from place 6 up to a place and whose RECORD stands behind that.
-#[derive(Clone, Copy)]
-pub enum Asked {
-    Other,
-    Words(usize),
-}
-
-pub fn find(line: &[u8]) -> Asked
+// Where MESSAGE ends in a line that asks whose number is shown: it stands from place 6 on, and RECORD behind that place.
+pub fn find(line: &[u8]) -> Option<usize>
     ensures value { result ≡ asked_of line.now }
-    ensures inside { Inside (length line.now) result }
+    ensures inside { IfSome result (λ second. Inside (length line.now) second) }
 {
     let end = script::place_of(b' ', line, 0);
-    if !octets::same(&line[0..end], b"shown") {
-        return Asked::Other;
+    if &line[..end] != b"shown".as_slice() {
+        return None;
     }
     let second = script::place_of(b' ', line, 6);
-    if line.len() <= second {
-        return Asked::Other;
-    }
-    Asked::Words(second)
+    (second < line.len()).then_some(second)
 }
 
 // A word and two numbers, each with a blank behind it.
@@ -76,17 +67,17 @@ pub fn put_words(out: &mut [u8], at: usize, extent: Extent) -> usize
     ensures short { (at ≤ result) × (result ≤ at + 80) }
 {
     match extent {
-        Extent::Message(_, n) => {
-            if n == 0 {
-                return octets::put(
-                    out,
-                    at,
-                    b"# nothing shown: presentation of the calling number is not allowed\n",
-                );
-            }
-            octets::put(out, at, b"# shown: the calling number of the message\n")
-        }
-        Extent::Record(_, _) => octets::put(
+        Extent::Message(_, n) if n == 0 => octets::put(
+            out,
+            at,
+            b"# nothing shown: presentation of the calling number is not allowed\n",
+        ),
+        Extent::Message(..) => octets::put(
+            out,
+            at,
+            b"# shown: the calling number of the message\n",
+        ),
+        Extent::Record(..) => octets::put(
             out,
             at,
             b"# shown: the subscription record, all of it\n",

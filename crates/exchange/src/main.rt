@@ -10,7 +10,7 @@ mod lines;
 mod number;
 mod texts;
 
-ghost use Rattle.std.specs.Prelude.{◌≡◌, ◌≤◌, ◌<◌, length};
+ghost use Rattle.std.specs.Prelude.{◌≡◌, ◌≤◌, ◌<◌, length, IfSome};
 ghost use Rattle.script.specs.Lines.{Asks, Within};
 
 use lines::Chunk;
@@ -285,11 +285,10 @@ fn begin(rt: &impl Print, mut desk: Desk, line: &[u8], out: &mut [u8; 65536]) ->
     requires { desk.used ≤ 65536 }
     ensures { result.used ≤ 65536 }
 {
-    let lists = script::read_lists(line);
-    if !lists.good {
+    let Some(lists) = script::read_lists(line) else {
         desk.used = texts::put_bad_line(rt, out, desk.used, line, desk.explains);
         return desk;
-    }
+    };
     open(
         rt,
         desk,
@@ -316,11 +315,11 @@ fn restore(rt: &impl Print, desk: Desk, octets: &[u8], n: usize, out: &mut [u8; 
 }
 
 // What a line asks; one that is too long is bad.
-fn read(line: &[u8], octets: &mut [u8; 4096]) -> Line
-    ensures { Within result 4096 }
+fn read(line: &[u8], octets: &mut [u8; 4096]) -> Option<Line>
+    ensures { IfSome result (λ line. Within line 4096) }
 {
     if 65536 < line.len() {
-        return Line::Bad;
+        return None;
     }
     script::read(line, octets)
 }
@@ -337,11 +336,11 @@ fn take(
     ensures { result.used ≤ 65536 }
 {
     match read(line, octets) {
-        Line::Bad => desk.filled(number::answer(rt, out, desk.used, line, octets, desk.explains)),
-        Line::Start => begin(rt, desk, line, out),
-        Line::Event(clock, request) => handle(rt, desk, clock, request, octets, out),
-        Line::Save(size) => desk.filled(keep(rt, desk, size, out)),
-        Line::Reload(n) => restore(rt, desk, octets, n, out),
+        None => desk.filled(number::answer(rt, out, desk.used, line, octets, desk.explains)),
+        Some(Line::Start) => begin(rt, desk, line, out),
+        Some(Line::Event(clock, request)) => handle(rt, desk, clock, request, octets, out),
+        Some(Line::Save(size)) => desk.filled(keep(rt, desk, size, out)),
+        Some(Line::Reload(n)) => restore(rt, desk, octets, n, out),
     }
 }
 

@@ -5,8 +5,6 @@
 ghost use Rattle.std.specs.Prelude.{◌≤◌, ◌<◌, length};
 
 use crate::texts;
-use display::Asked;
-use script::Octets;
 
 // Which part of a message or of a record is shown, and in words if answers are explained.
 fn show<'a>(
@@ -61,13 +59,13 @@ fn ask(
     ensures { result ≤ 65536 }
 {
     let mut record = [0u8; 4096];
-    match script::read_octets(&line[6..second], octets) {
-        Octets::Bad => texts::put_bad_line(rt, out, at, line, explains),
-        Octets::Are(n) => match script::read_octets(&line[second + 1..], &mut record) {
-            Octets::Bad => texts::put_bad_line(rt, out, at, line, explains),
-            Octets::Are(k) => show_front(rt, out, at, octets, n, &record, k, explains),
-        },
-    }
+    let Some(n) = script::read_octets(&line[6..second], octets) else {
+        return texts::put_bad_line(rt, out, at, line, explains);
+    };
+    let Some(k) = script::read_octets(&line[second + 1..], &mut record) else {
+        return texts::put_bad_line(rt, out, at, line, explains);
+    };
+    show_front(rt, out, at, octets, n, &record, k, explains)
 }
 
 // A line that is no event's: one that asks whose number is shown, or one that cannot be read.
@@ -83,7 +81,7 @@ pub(crate) fn answer(
     ensures { result ≤ 65536 }
 {
     match display::find(line) {
-        Asked::Other => texts::put_bad_line(rt, out, at, line, explains),
-        Asked::Words(second) => ask(rt, out, at, line, second, octets, explains),
+        None => texts::put_bad_line(rt, out, at, line, explains),
+        Some(second) => ask(rt, out, at, line, second, octets, explains),
     }
 }

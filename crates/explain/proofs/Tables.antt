@@ -17,13 +17,16 @@ use Rattle.octets.specs.Octets.{part}
 use Rattle.script.specs.Words.{count_to, place_of}
 use Rattle.explain.specs.Names.{line_in, name_from, name_in}
 
+one_more : (s : List ℕ) → 1 + count_to 10 s ≡ suc (count_to 10 s)
+one_more s = omega arith
+
 line_taken : (s : List ℕ) → take (count_to 10 s) s ≡ line_in s
 line_taken [] = refl
-line_taken (o ∷ s) = by_test (eqb o 10) (λ e. rw e) (λ e. rw (e, line_taken s))
+line_taken (o ∷ s) = by_test (eqb o 10) (λ e. rw e) (λ e. rw (e, one_more s, line_taken s))
 
 next_line : (s : List ℕ) (n : ℕ) → name_from false s n ≡ name_from true (drop (suc (count_to 10 s)) s) n
 next_line [] n = refl
-next_line (o ∷ s) n = by_test (eqb o 10) (λ e. rw e) (λ e. rw (e, next_line s n))
+next_line (o ∷ s) n = by_test (eqb o 10) (λ e. rw e) (λ e. rw (e, one_more s, next_line s n))
 
 -- the lines before a place do not begin with the number
 abbrev pub Unread : List ℕ → ℕ → ℕ → Type 0

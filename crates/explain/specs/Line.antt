@@ -12,8 +12,8 @@ use Rattle.std.specs.Prelude.{ℕ, ◌+◌, Bool, true, false, cond, not, ◌&&�
 use Rattle.ascii.specs.Ascii.{word, or_else, decimal_text}
 use Rattle.header.specs.declared.Header.{Header}
 use Rattle.header.specs.Header.{head_of}
-use Rattle.elements.specs.declared.CauseRead.{CauseRead}
-use Rattle.elements.specs.declared.CauseRead.TheVariants.{Absent, Unreadable, Number}
+use Rattle.elements.specs.declared.Read.{Read}
+use Rattle.elements.specs.declared.Read.TheVariants.{Absent, Unreadable, Readable}
 use Rattle.elements.specs.Values.{cause_in}
 use Rattle.calls.specs.declared.State.{State}
 use Rattle.calls.specs.declared.State.TheVariants.{N3, N6, N9, N10, N12}
@@ -42,12 +42,12 @@ abbrev pub header_text : Header → List ℕ
 header_text head = kind_text head.kind ++ flag_text head.flag ++ decimal_text head.reference
 
 -- "the cause if its element 08 can be read"
-abbrev pub found_text : CauseRead → List ℕ
+abbrev pub found_text : Read ℕ → List ℕ
 found_text Absent = []
 found_text Unreadable = []
-found_text (Number cause) = cause_text cause
+found_text (Readable cause) = cause_text cause
 
-abbrev pub head_text : Option Header → CauseRead → List ℕ
+abbrev pub head_text : Option Header → Read ℕ → List ℕ
 head_text None cause = word "no message of ours"
 head_text (Some head) cause = header_text head ++ found_text cause
 

@@ -12,8 +12,8 @@ ghost use Rattle.explain.specs.Names.{name_in, refusal_names};
 ghost use Rattle.explain.specs.Line.{kind_text, cause_text, flag_text, header_text, found_text, message_text, clear_text, request_text, reply_text, timer_text, call_text, slot_text, same_due, same_state, is_same, is_about, change_text, note_text, slots_text, line_text};
 
 use calls::{Call, Due, Hold, Slot, State};
-use elements::CauseRead;
-use header::{Head, Header};
+use elements::Read;
+use header::Header;
 use script::Request;
 use slots::{SLOTS, Slots};
 
@@ -143,9 +143,8 @@ fn put_cause_of(out: &mut [u8], at: usize, m: &[u8]) -> usize
     ensures short { (at ≤ result) × (result ≤ at + 1100) }
 {
     match elements::cause(m, 9) {
-        CauseRead::Absent => at,
-        CauseRead::Unreadable => at,
-        CauseRead::Number(cause) => put_cause(out, at, cause),
+        Read::Readable(cause) => put_cause(out, at, cause),
+        _ => at,
     }
 }
 
@@ -156,8 +155,8 @@ fn put_message(out: &mut [u8], at: usize, m: &[u8]) -> usize
     ensures short { (at ≤ result) × (result ≤ at + 1360) }
 {
     match header::read(m) {
-        Head::Ignored => octets::put(out, at, b"no message of ours"),
-        Head::Is(head) => {
+        None => octets::put(out, at, b"no message of ours"),
+        Some(head) => {
             let next = put_header(out, at, head);
             put_cause_of(out, next, m)
         }
@@ -334,10 +333,9 @@ fn is_about(request: Request, came: &[u8], i: usize, slot: Slot) -> bool
 {
     match request {
         Request::Tick => false,
-        Request::Message(n) => match header::read(&came[..n]) {
-            Head::Ignored => false,
-            Head::Is(head) => slot.is_call(head.flag, head.reference),
-        },
+        Request::Message(n) => {
+            header::read(&came[..n]).is_some_and(|head| slot.is_call(head.flag, head.reference))
+        }
         Request::Connect(number) => number == i as u64,
         Request::Clear(number, _) => number == i as u64,
         Request::Offer(_) => false,

@@ -3,6 +3,7 @@
 --   doubt_free, doubt_stays, doubt_begins
 --                            if the pair is in doubt afterwards: where it was free, in doubt, held by a call that goes
 -- Assumes nothing.
+use Rattle.channels.specs.declared.Pair.{Pair}
 use Rattle.std.specs.Prelude.{Some}
 use Prim.Native.Nat.{ℕ}
 use mathlib.Core.Path.{◌≡◌, refl, sym, ap, ◌∙◌}
@@ -29,8 +30,7 @@ use Rattle.calls.specs.declared.Slot.{Slot}
 use Rattle.calls.specs.Calls.{no_slot, is_named}
 use Rattle.slots.specs.Slots.{slot_count}
 use Rattle.header.specs.declared.Header.{Header}
-use Rattle.elements.specs.declared.ConnectionRead.{ConnectionRead}
-use Rattle.elements.specs.declared.RestartRead.{RestartRead}
+use Rattle.elements.specs.declared.Read.{Read}
 use Rattle.elements.specs.Values.{connection_in, restart_in}
 use Rattle.replies.specs.declared.Reply.{Reply}
 use Rattle.service.specs.declared.GlobalState.TheVariants.{RestartRequest}
@@ -119,7 +119,7 @@ restart_is : (m : List ℕ) (h : Header) (e : Event) (p v : ℕ) → view.IsMess
 restart_is m h e p v (view.heard label reading room head) right =
     ap (λ (b : Bool). b && names (restart_in m 9) (connection_in m 9) p v) (ap restart_head head ∙ right)
 
-names_same : (t : Table) (r : RestartRead) (c : ConnectionRead) (which : Named) (a : Reply) (p v : ℕ) → view.Names t r c which a
+names_same : (t : Table) (r : Read ℕ) (c : Read Pair) (which : Named) (a : Reply) (p v : ℕ) → view.Names t r c which a
     → names r c p v ≡ by_us.names which p v
 names_same t r c which a p v (view.all k g y) = rw (g, y)
 names_same t r c which a p v (view.one k q w g n f known fair) = rw (g, n, f)

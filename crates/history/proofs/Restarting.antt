@@ -24,11 +24,10 @@ use Rattle.pairs.specs.Pairs as by_us
 use Rattle.pairs.proofs.Laws.{unless_in}
 use Rattle.header.specs.declared.Header.{Header}
 use Rattle.header.specs.Header.{head_of}
-use Rattle.elements.specs.declared.ConnectionRead.{ConnectionRead}
-use Rattle.elements.specs.declared.ConnectionRead.TheVariants as connection_read
-use Rattle.elements.specs.declared.RestartRead.{RestartRead}
-use Rattle.elements.specs.declared.RestartRead.TheVariants as restart_read
-use Rattle.elements.specs.Values.{connection_in, restart_in}
+use Rattle.elements.specs.declared.Read.{Read}
+use Rattle.channels.specs.declared.Pair.{Pair}
+use Rattle.elements.specs.declared.Read.TheVariants as elem
+use Rattle.elements.specs.Values.{connection_in, restart_in, pair_read}
 use Rattle.replies.specs.declared.Reply.TheVariants as reply
 use Rattle.service.specs.declared.GlobalState.{GlobalState}
 use Rattle.service.specs.declared.GlobalState.TheVariants.{Null, RestartRequest}
@@ -87,7 +86,7 @@ goes_on t reading m (Some h) e =
 
 -- no STATUS answers a permitted pair
 goes_through : (t : Table) → Sound t → (p v : ℕ) → permitted t.pool p v ≡ true
-    → pair_restart (global_number t.global.state) t.pool (connection_read.Pair p v) ≡ restart_by (named.One (pair p v)) (reply.RestartAcknowledge p v)
+    → pair_restart (global_number t.global.state) t.pool (pair_read p v) ≡ restart_by (named.One (pair p v)) (reply.RestartAcknowledge p v)
 goes_through t s p v ok =
     let known = permitted-known t.pool p v ok in
     let numbers = s.numbers p v ok in
@@ -102,23 +101,23 @@ pub record ActsOn (p v : ℕ) (x : Effect) : Type 0 where
   pub pair_named : by_us.names which p v ≡ true
 
 module _ (t : Table) (s : Sound t) (p v : ℕ) (ok : permitted t.pool p v ≡ true) where
-  pair_acts : (c : ConnectionRead) → names_pair c p v ≡ true → ActsOn p v (pair_restart (global_number t.global.state) t.pool c)
-  pair_acts connection_read.Absent e = clash e refl
-  pair_acts connection_read.Unreadable e = clash e refl
-  pair_acts (connection_read.Pair q w) e =
-      let b = both (eqb q p) (eqb w v) e in
+  pair_acts : (c : Read Pair) → names_pair c p v ≡ true → ActsOn p v (pair_restart (global_number t.global.state) t.pool c)
+  pair_acts elem.Absent e = clash e refl
+  pair_acts elem.Unreadable e = clash e refl
+  pair_acts (elem.Readable q) e =
+      let b = both (eqb q.vpci p) (eqb q.vci v) e in
       record {
-        which = named.One (pair q w);
+        which = named.One q;
         why = User;
-        change = rw (eqb-true q p b.0, eqb-true w v b.1) (ap (λ (x : Effect). x.change) (goes_through t s p v ok));
+        change = rw (eqb-true q.vpci p b.0, eqb-true q.vci v b.1) (ap (λ (x : Effect). x.change) (goes_through t s p v ok));
         unmarked = λ o. refl;
         pair_named = e;
       }
 
-  named_acts : (r : RestartRead) (c : ConnectionRead) → names r c p v ≡ true → ActsOn p v (restart_effect (global_number t.global.state) t.pool r c)
-  named_acts restart_read.Absent c e = clash e refl
-  named_acts restart_read.Unreadable c e = clash e refl
-  named_acts (restart_read.Class k) c e =
+  named_acts : (r : Read ℕ) (c : Read Pair) → names r c p v ≡ true → ActsOn p v (restart_effect (global_number t.global.state) t.pool r c)
+  named_acts elem.Absent c e = clash e refl
+  named_acts elem.Unreadable c e = clash e refl
+  named_acts (elem.Readable k) c e =
       by_test (eqb k 0x82)
       (λ y. record { which = named.All; why = User; change = rw y; unmarked = λ o. refl; pair_named = refl })
       (λ n. rw n (pair_acts c (rw n at e)))

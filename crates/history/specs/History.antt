@@ -33,11 +33,10 @@ use Rattle.first.specs.First.{place}
 use Rattle.slots.specs.Slots.{is_set}
 use Rattle.slots.specs.Timers.{next_due}
 use Rattle.header.specs.Header.{head_of}
-use Rattle.elements.specs.declared.ConnectionRead.{ConnectionRead}
-use Rattle.elements.specs.declared.ConnectionRead.TheVariants as connection_read
-use Rattle.elements.specs.declared.RestartRead.{RestartRead}
-use Rattle.elements.specs.declared.RestartRead.TheVariants as restart_read
-use Rattle.elements.specs.Values.{connection_in, restart_in}
+use Rattle.elements.specs.declared.Read.{Read}
+use Rattle.channels.specs.declared.Pair.{Pair}
+use Rattle.elements.specs.declared.Read.TheVariants as elem
+use Rattle.elements.specs.Values.{connection_in, restart_in, pair_read}
 use Rattle.service.specs.declared.GlobalState.{GlobalState}
 use Rattle.service.specs.declared.GlobalState.TheVariants.{Null, RestartRequest}
 use Rattle.service.specs.Service.{is_waiting, is_out}
@@ -119,15 +118,15 @@ abbrev pub is_restart : List ℕ → Bool
 is_restart m = restart_head (head_of m)
 
 -- ".. that names it, or all": 79, "80 (indicated channel) or 82 (all)" where it is readable, is 82, or else 5A is the pair
-abbrev pub names_pair : ConnectionRead → ℕ → ℕ → Bool
-names_pair connection_read.Absent p v = false
-names_pair connection_read.Unreadable p v = false
-names_pair (connection_read.Pair q w) p v = eqb q p && eqb w v
+abbrev pub names_pair : Read Pair → ℕ → ℕ → Bool
+names_pair elem.Absent p v = false
+names_pair elem.Unreadable p v = false
+names_pair (elem.Readable c) p v = eqb c.vpci p && eqb c.vci v
 
-abbrev pub names : RestartRead → ConnectionRead → ℕ → ℕ → Bool
-names restart_read.Absent connection p v = false
-names restart_read.Unreadable connection p v = false
-names (restart_read.Class c) connection p v = eqb c 0x82 || names_pair connection p v
+abbrev pub names : Read ℕ → Read Pair → ℕ → ℕ → Bool
+names elem.Absent connection p v = false
+names elem.Unreadable connection p v = false
+names (elem.Readable c) connection p v = eqb c 0x82 || names_pair connection p v
 
 abbrev pub restarts : Event → ℕ → ℕ → Bool
 restarts (message label reading room octets) p v = is_restart octets && names (restart_in octets 9) (connection_in octets 9) p v
@@ -147,7 +146,7 @@ abbrev pub is_acknowledge : List ℕ → Bool
 is_acknowledge m = acknowledge_head (head_of m)
 
 -- "One with 79, and for one pair 5A, readable and the same .. ends the named doubts": of our RESTART under way, if it names the pair
-abbrev pub answers : GlobalState → RestartRead → ConnectionRead → ℕ → ℕ → Bool
+abbrev pub answers : GlobalState → Read ℕ → Read Pair → ℕ → ℕ → Bool
 answers Null r c p v = false
 answers (RestartRequest which second d) r c p v = is_same which r c && by_us.names which p v
 
@@ -243,12 +242,12 @@ unmarked t p v = cond (out_in t p v) out_of_service free
 
 pub record Restarting (t : Table) : Type 0 where
   -- "or all, ends the doubt": no pair at all is in doubt, nor held
-  pub ends_all : (label reading room : ℕ) (m : List ℕ) → Restarts t label reading room m → restart_in m 9 ≡ restart_read.Class 0x82
+  pub ends_all : (label reading room : ℕ) (m : List ℕ) → Restarts t label reading room m → restart_in m 9 ≡ elem.Readable 0x82
       → let o = happens t (message label reading room m) in
       ((p v : ℕ) → way_in o.answer.table p v ≡ unmarked t p v) × (o.reply ≡ reply_octets true 0 RestartAcknowledgeAll)
   -- "that names it, .. ends the doubt": "80 (indicated channel)", and 5A is a permitted pair
-  pub ends_named : (label reading room : ℕ) (m : List ℕ) → Restarts t label reading room m → restart_in m 9 ≡ restart_read.Class 0x80
-      → (p v : ℕ) → connection_in m 9 ≡ connection_read.Pair p v → permitted t.pool p v ≡ true
+  pub ends_named : (label reading room : ℕ) (m : List ℕ) → Restarts t label reading room m → restart_in m 9 ≡ elem.Readable 0x80
+      → (p v : ℕ) → connection_in m 9 ≡ pair_read p v → permitted t.pool p v ≡ true
       → let o = happens t (message label reading room m) in
       (way_in o.answer.table p v ≡ unmarked t p v) × (o.reply ≡ reply_octets true 0 (RestartAcknowledge p v))
 

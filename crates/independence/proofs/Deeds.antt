@@ -10,6 +10,7 @@ use Prim.Native.Nat.{ℕ}
 use mathlib.Core.Bool.{Bool, true, false, not, cond, ◌&&◌}
 use mathlib.Core.List.{List}
 use lib.Dec.{eqb}
+use Rattle.std.specs.Prelude.{Result, Ok, Err, ⊤}
 use Rattle.table.specs.declared.Table.{Table}
 use Rattle.channels.specs.declared.Pair.{Pair}
 use Rattle.channels.specs.declared.Pool.{Pool}
@@ -26,11 +27,10 @@ use Rattle.service.specs.declared.GlobalState.{GlobalState}
 use Rattle.service.specs.declared.OutOfService.{OutOfService}
 use Rattle.search.specs.Search.{taken}
 use Rattle.header.specs.declared.Header.{Header}
+use Rattle.replies.specs.declared.Cause.{Cause}
 use Rattle.replies.specs.declared.Reply.{Reply}
 use Rattle.replies.specs.declared.Reply.TheVariants as reply
 use Rattle.replies.specs.Reply.{reply_octets}
-use Rattle.setup.specs.declared.Admission.{Admission}
-use Rattle.setup.specs.declared.Admission.TheVariants.{Admitted, Refused}
 use Rattle.setup.specs.Setup.{admission}
 use Rattle.verdicts.specs.declared.Fate.{Fate}
 use Rattle.verdicts.specs.declared.Fate.TheVariants as fate
@@ -126,9 +126,9 @@ abbrev pub admit : ℕ → Option ℕ → Option Pair → Deed
 admit r None c = still true r (reply.ReleaseCompleteWith (plain_cause 47))
 admit r (Some i) c = on_pair r i c
 
-abbrev pub set_up : ℕ → Option ℕ → Option Pair → Admission → Deed
-set_up r e c (Refused cause) = still true r (reply.ReleaseCompleteWith cause)
-set_up r e c Admitted = admit r e c
+abbrev pub set_up : ℕ → Option ℕ → Option Pair → Result ⊤ Cause → Deed
+set_up r e c (Err cause) = still true r (reply.ReleaseCompleteWith cause)
+set_up r e c (Ok u) = admit r e c
 
 abbrev pub on_no_call : List ℕ → Header → Option ℕ → Option Pair → Deed
 on_no_call m h e c =

@@ -17,6 +17,7 @@ use lib.ListN.{set}
 use native.Mathlib.Nat.{le_refl}
 use borrow.Author.Tests.{ne_eqb, le-ltb}
 use Rattle.channels.specs.declared.Pair.{Pair}
+use Rattle.std.specs.Prelude.{Result, Ok, Err, ⊤}
 use Rattle.channels.proofs.Cases.{by_test, clash}
 use Rattle.calls.specs.declared.State.{State}
 use Rattle.calls.specs.declared.Call.{Call}
@@ -29,9 +30,8 @@ use Rattle.first.proofs.First.{placed}
 use Rattle.slots.specs.Slots.{hold_at}
 use Rattle.header.specs.declared.Header.{Header}
 use Rattle.header.specs.Header.{head_of}
+use Rattle.replies.specs.declared.Cause.{Cause}
 use Rattle.replies.specs.declared.Reply.{Reply}
-use Rattle.setup.specs.declared.Admission.{Admission}
-use Rattle.setup.specs.declared.Admission.TheVariants.{Admitted, Refused}
 use Rattle.setup.specs.Setup.{admission}
 use Rattle.verdicts.specs.declared.Fate.{Fate}
 use Rattle.verdicts.specs.declared.Fate.TheVariants as fate
@@ -93,9 +93,9 @@ module _ (t : Table) (own : Slot → Bool) where
   admit_matches r None e = still_matches true r _
   admit_matches r (Some i) e = pair_matches r i (effects.free_pair t) e
 
-  setup_matches : (r : ℕ) (a : Admission) → Matches t own (effects.setup_effect t r a) (set_up r (place is_empty t.slots.all) (effects.free_pair t) a)
-  setup_matches r (Refused c) = still_matches true r _
-  setup_matches r Admitted = admit_matches r (place is_empty t.slots.all) refl
+  setup_matches : (r : ℕ) (a : Result ⊤ Cause) → Matches t own (effects.setup_effect t r a) (set_up r (place is_empty t.slots.all) (effects.free_pair t) a)
+  setup_matches r (Err c) = still_matches true r _
+  setup_matches r (Ok u) = admit_matches r (place is_empty t.slots.all) refl
 
   no_call_matches : (m : List ℕ) (h : Header) → Matches t own (effects.on_no_call t m h) (on_no_call m h (place is_empty t.slots.all) (effects.free_pair t))
   no_call_matches m h =

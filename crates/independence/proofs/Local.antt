@@ -15,6 +15,7 @@ use lib.Dec.{eqb}
 use borrow.Author.Tests.{eq-eqb}
 use Rattle.channels.specs.declared.Pair.{Pair}
 use Rattle.std.specs.List.{list_any}
+use Rattle.std.specs.Prelude.{Result, Ok, Err, ⊤}
 use Rattle.channels.specs.Channels.{among}
 use Rattle.channels.proofs.Cases.{by_test, clash}
 use Rattle.channels.proofs.Lowest.{lowest_same}
@@ -29,8 +30,7 @@ use Rattle.calls.proofs.Calls.{call_not_empty, call_named_once}
 use Rattle.first.specs.First.{upd}
 use Rattle.first.proofs.First.{Off}
 use Rattle.header.specs.declared.Header.{Header}
-use Rattle.setup.specs.declared.Admission.{Admission}
-use Rattle.setup.specs.declared.Admission.TheVariants.{Admitted, Refused}
+use Rattle.replies.specs.declared.Cause.{Cause}
 use Rattle.setup.specs.Setup.{admission}
 use Rattle.verdicts.specs.declared.Fate.{Fate}
 use Rattle.verdicts.specs.declared.Fate.TheVariants as fate
@@ -55,9 +55,9 @@ module _ (h : Header) (setup : eqb h.kind 0x05 ≡ true) (user : h.flag ≡ fals
   admit_of None c = of_turn _ _
   admit_of (Some i) c = pair_of i c
 
-  setup_of : (f : Option ℕ) (c : Option Pair) (a : Admission) → Of h (set_up h.reference f c a)
-  setup_of f c (Refused cause) = of_turn _ _
-  setup_of f c Admitted = admit_of f c
+  setup_of : (f : Option ℕ) (c : Option Pair) (a : Result ⊤ Cause) → Of h (set_up h.reference f c a)
+  setup_of f c (Err cause) = of_turn _ _
+  setup_of f c (Ok u) = admit_of f c
 
 no_call_of : (m : List ℕ) (h : Header) (f : Option ℕ) (c : Option Pair) → Of h (on_no_call m h f c)
 no_call_of m h f c =

@@ -13,10 +13,8 @@ use Rattle.calls.specs.declared.State.TheVariants.{N3, N6, N9, N10, N12}
 use Rattle.calls.specs.Calls.{state_number}
 use Rattle.calls.specs.Timers.{t310}
 use Rattle.header.specs.declared.Header.{Header}
-use Rattle.elements.specs.declared.CauseRead.{CauseRead}
-use Rattle.elements.specs.declared.CauseRead.TheVariants as cause_read
-use Rattle.elements.specs.declared.CallStateRead.{CallStateRead}
-use Rattle.elements.specs.declared.CallStateRead.TheVariants as call_state_read
+use Rattle.elements.specs.declared.Read.{Read}
+use Rattle.elements.specs.declared.Read.TheVariants as elem
 use Rattle.elements.specs.Values.{cause_in, call_state_in}
 use Rattle.replies.specs.declared.Diagnostic.{Diagnostic}
 use Rattle.replies.specs.declared.Diagnostic.TheVariants as diagnostic
@@ -31,13 +29,13 @@ use Rattle.judging.specs.declared.Kind.TheVariants as kind
 use Rattle.judging.specs.Class.{classify}
 
 -- "Else gone, RELEASE COMPLETE: no element, or 96 or 100 with 08 if Cause is absent or unreadable."
-abbrev pub release_complete : CauseRead → Reply
-release_complete cause_read.Absent = reply.ReleaseCompleteWith (because 96 (diagnostic.Octet 0x08))
-release_complete cause_read.Unreadable = reply.ReleaseCompleteWith (because 100 (diagnostic.Octet 0x08))
-release_complete (cause_read.Number n) = reply.ReleaseComplete
+abbrev pub release_complete : Read ℕ → Reply
+release_complete elem.Absent = reply.ReleaseCompleteWith (because 96 (diagnostic.Octet 0x08))
+release_complete elem.Unreadable = reply.ReleaseCompleteWith (because 100 (diagnostic.Octet 0x08))
+release_complete (elem.Readable n) = reply.ReleaseComplete
 
 -- "RELEASE: in N12, gone, no reply. Else gone, RELEASE COMPLETE"
-abbrev pub release_reply : State → CauseRead → Reply
+abbrev pub release_reply : State → Read ℕ → Reply
 release_reply N3 c = release_complete c
 release_reply (N6 d) c = release_complete c
 release_reply (N9 d) c = release_complete c
@@ -45,10 +43,10 @@ release_reply N10 c = release_complete c
 release_reply (N12 k d) c = reply.None
 
 -- "STATUS: without a readable Call state, nothing; live call and state 0, gone; .. else nothing."
-abbrev pub status_verdict : CallStateRead → Verdict
-status_verdict call_state_read.Absent = silent
-status_verdict call_state_read.Unreadable = silent
-status_verdict (call_state_read.Value s) = cond (eqb s 0) (ended reply.None) silent
+abbrev pub status_verdict : Read ℕ → Verdict
+status_verdict elem.Absent = silent
+status_verdict elem.Unreadable = silent
+status_verdict (elem.Readable s) = cond (eqb s 0) (ended reply.None) silent
 
 -- "STATUS ENQUIRY: STATUS cause 30."; "with the type as diagnostic and the current state"
 abbrev pub status_of : State → ℕ → Diagnostic → Reply
@@ -77,10 +75,10 @@ abbrev pub judge : List ℕ → Header → State → ℕ → Verdict
 judge m h state reading = judged_as (classify h.kind state) m h state reading
 
 -- "no call and state not 0, RELEASE COMPLETE 101 without diagnostic"
-abbrev pub status_reply : CallStateRead → Reply
-status_reply call_state_read.Absent = reply.None
-status_reply call_state_read.Unreadable = reply.None
-status_reply (call_state_read.Value s) = cond (eqb s 0) reply.None (reply.ReleaseCompleteWith (plain_cause 101))
+abbrev pub status_reply : Read ℕ → Reply
+status_reply elem.Absent = reply.None
+status_reply elem.Unreadable = reply.None
+status_reply (elem.Readable s) = cond (eqb s 0) reply.None (reply.ReleaseCompleteWith (plain_cause 101))
 
 -- "No such call: RELEASE COMPLETE does nothing; STATUS ENQUIRY gets STATUS, state 0, cause 30; STATUS goes on; others but
 -- SETUP get RELEASE COMPLETE cause 81."

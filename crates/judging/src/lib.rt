@@ -15,7 +15,7 @@ ghost use Rattle.elements.specs.Values.{cause_in, call_state_in};
 ghost use Rattle.verdicts.specs.Verdict.{answered};
 
 use calls::{State, T310};
-use elements::{CallStateRead, CauseRead};
+use elements::Read;
 use header::Header;
 use replies::{Diagnostic, Reply};
 use verdicts::{Notice, Verdict, answered, because, ended, moved, plain_cause};
@@ -85,9 +85,9 @@ fn release_complete(m: &[u8]) -> Reply
     ensures { result ≡ release_complete (cause_in m.now 9) }
 {
     match elements::cause(m, 9) {
-        CauseRead::Absent => Reply::ReleaseCompleteWith(because(96, Diagnostic::Octet(0x08))),
-        CauseRead::Unreadable => Reply::ReleaseCompleteWith(because(100, Diagnostic::Octet(0x08))),
-        CauseRead::Number(_) => Reply::ReleaseComplete,
+        Read::Absent => Reply::ReleaseCompleteWith(because(96, Diagnostic::Octet(0x08))),
+        Read::Unreadable => Reply::ReleaseCompleteWith(because(100, Diagnostic::Octet(0x08))),
+        Read::Readable(_) => Reply::ReleaseComplete,
     }
 }
 
@@ -95,14 +95,8 @@ fn status_verdict(m: &[u8]) -> Verdict
     ensures { result ≡ status_verdict (call_state_in m.now 9) }
 {
     match elements::call_state(m, 9) {
-        CallStateRead::Absent => answered(Reply::None),
-        CallStateRead::Unreadable => answered(Reply::None),
-        CallStateRead::Value(state) => {
-            if state == 0 {
-                return ended(Reply::None);
-            }
-            answered(Reply::None)
-        }
+        Read::Readable(0) => ended(Reply::None),
+        _ => answered(Reply::None),
     }
 }
 
@@ -151,14 +145,8 @@ fn status_reply(m: &[u8]) -> Reply
     ensures { result ≡ status_reply (call_state_in m.now 9) }
 {
     match elements::call_state(m, 9) {
-        CallStateRead::Absent => Reply::None,
-        CallStateRead::Unreadable => Reply::None,
-        CallStateRead::Value(state) => {
-            if state == 0 {
-                return Reply::None;
-            }
-            Reply::ReleaseCompleteWith(plain_cause(101))
-        }
+        Read::Absent | Read::Unreadable | Read::Readable(0) => Reply::None,
+        Read::Readable(_) => Reply::ReleaseCompleteWith(plain_cause(101)),
     }
 }
 

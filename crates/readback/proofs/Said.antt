@@ -24,16 +24,9 @@ use Rattle.octets.proofs.Numbers.{number_back}
 use Rattle.items.specs.declared.Item.{Item}
 use Rattle.items.specs.declared.Item.TheVariants.{End, Overrun, Whole}
 use Rattle.items.specs.Items.{items, first_of, ends_whole, whole_from}
-use Rattle.elements.specs.declared.CauseRead.TheVariants.{Number}
-use Rattle.elements.specs.declared.CauseRead.TheVariants as cause_read
-use Rattle.elements.specs.declared.CallStateRead.TheVariants.{Value}
-use Rattle.elements.specs.declared.CallStateRead.TheVariants as state_read
-use Rattle.elements.specs.declared.ConnectionRead.TheVariants.{Pair}
-use Rattle.elements.specs.declared.ConnectionRead.TheVariants as pair_read
-use Rattle.elements.specs.declared.RestartRead.TheVariants.{Class}
-use Rattle.elements.specs.declared.RestartRead.TheVariants as restart_read
+use Rattle.elements.specs.declared.Read.TheVariants.{Absent, Unreadable, Readable}
 use Rattle.elements.specs.Elements.{action_fits, judge, look_for}
-use Rattle.elements.specs.Values.{read, cause_in, call_state_in, connection_in, restart_in}
+use Rattle.elements.specs.Values.{read, pair_read, cause_in, call_state_in, connection_in, restart_in}
 use Rattle.replies.specs.declared.Cause.{Cause}
 use Rattle.replies.specs.declared.Reply.{Reply}
 use Rattle.replies.specs.declared.Reply.TheVariants as reply
@@ -90,27 +83,27 @@ module _ {A : Type 0} (id : ℕ) (absent unread : A) (value : List ℕ → A) wh
 
 module _ (m : Message) (w : WellFormed m) where
   pub cause_back : cause_in (octets m) 9 ≡ cause_of m.elements
-  cause_back = look_back 0x08 cause_read.Absent cause_read.Unreadable (λ c. Number (cause_number c)) m w
+  cause_back = look_back 0x08 Absent Unreadable (λ c. Readable (cause_number c)) m w
 
   pub state_back : call_state_in (octets m) 9 ≡ state_of m.elements
-  state_back = look_back 0x14 state_read.Absent state_read.Unreadable (λ c. Value (call_state_value c)) m w
+  state_back = look_back 0x14 Absent Unreadable (λ c. Readable (call_state_value c)) m w
 
   pub pair_back : connection_in (octets m) 9 ≡ pair_of m.elements
-  pair_back = look_back 0x5A pair_read.Absent pair_read.Unreadable (λ c. Pair (pair_in c).vpci (pair_in c).vci) m w
+  pair_back = look_back 0x5A Absent Unreadable (λ c. Readable (pair_in c)) m w
 
   pub restart_back : restart_in (octets m) 9 ≡ restart_of m.elements
-  restart_back = look_back 0x79 restart_read.Absent restart_read.Unreadable (λ c. Class (restart_class c)) m w
+  restart_back = look_back 0x79 Absent Unreadable (λ c. Readable (restart_class c)) m w
 
 -- what each element that we write says
-cause_said : (c : Cause) (es : List Element) → c.number < 128 → cause_of (cause c ∷ es) ≡ Number c.number
+cause_said : (c : Cause) (es : List Element) → c.number < 128 → cause_of (cause c ∷ es) ≡ Readable c.number
 cause_said c es h =
     let n : (c.number % 128 + 0x80) % 128 ≡ c.number = omega arith in
     rw (le-leb 2 (length (cause c).contents) (omega arith), le-leb 128 (c.number % 128 + 0x80) (omega arith), n)
 
-state_said : (s : ℕ) (es : List Element) → s < 64 → state_of (call_state s ∷ es) ≡ Value s
+state_said : (s : ℕ) (es : List Element) → s < 64 → state_of (call_state s ∷ es) ≡ Readable s
 state_said s es h = rw (le-leb s 63 (omega arith))
 
-pair_said : (p v : ℕ) (es : List Element) → FitsPair p v → pair_of (connection p v ∷ es) ≡ Pair p v
+pair_said : (p v : ℕ) (es : List Element) → FitsPair p v → pair_of (connection p v ∷ es) ≡ pair_read p v
 pair_said p v es h = rw (number_back p h.vpci, number_back v h.vci)
 
 module _ (flag : Bool) (r : ℕ) (small : r < 8388608) where
@@ -123,43 +116,43 @@ module _ (flag : Bool) (r : ℕ) (small : r < 8388608) where
   sent_restart : (a : Reply) → Fitting a → restart_in (octets (meant flag r a)) 9 ≡ restart_of (elements_of a)
   sent_restart a h = restart_back (meant flag r a) (reply_well_formed flag r a small h)
 
-  pub release-cause : (c : Cause) → FitsCause c → cause_in (reply_octets flag r (reply.Release c)) 9 ≡ Number c.number
+  pub release-cause : (c : Cause) → FitsCause c → cause_in (reply_octets flag r (reply.Release c)) 9 ≡ Readable c.number
   release-cause c h = sent_cause (reply.Release c) h ∙ cause_said c [] h.number
 
-  pub release_complete_cause : (c : Cause) → FitsCause c → cause_in (reply_octets flag r (reply.ReleaseCompleteWith c)) 9 ≡ Number c.number
+  pub release_complete_cause : (c : Cause) → FitsCause c → cause_in (reply_octets flag r (reply.ReleaseCompleteWith c)) 9 ≡ Readable c.number
   release_complete_cause c h = sent_cause (reply.ReleaseCompleteWith c) h ∙ cause_said c [] h.number
 
-  pub status_cause : (s : ℕ) (c : Cause) → FitsStatus s c → cause_in (reply_octets flag r (reply.Status s c)) 9 ≡ Number c.number
+  pub status_cause : (s : ℕ) (c : Cause) → FitsStatus s c → cause_in (reply_octets flag r (reply.Status s c)) 9 ≡ Readable c.number
   status_cause s c h = sent_cause (reply.Status s c) h ∙ cause_said c [] h.why.number
 
   -- "14 Call state: 1; 0 to 63."
-  pub status_state : (s : ℕ) (c : Cause) → FitsStatus s c → s < 64 → call_state_in (reply_octets flag r (reply.Status s c)) 9 ≡ Value s
+  pub status_state : (s : ℕ) (c : Cause) → FitsStatus s c → s < 64 → call_state_in (reply_octets flag r (reply.Status s c)) 9 ≡ Readable s
   status_state s c h state =
       state_back (meant flag r (reply.Status s c)) (reply_well_formed flag r (reply.Status s c) small h) ∙ state_said s (cause c ∷ []) state
 
-  pub proceeding_pair : (p v : ℕ) → FitsPair p v → connection_in (reply_octets flag r (reply.CallProceeding p v)) 9 ≡ Pair p v
+  pub proceeding_pair : (p v : ℕ) → FitsPair p v → connection_in (reply_octets flag r (reply.CallProceeding p v)) 9 ≡ pair_read p v
   proceeding_pair p v h = sent_pair (reply.CallProceeding p v) h ∙ pair_said p v [] h
 
-  pub restart_pair : (p v : ℕ) → FitsPair p v → connection_in (reply_octets flag r (reply.RestartAcknowledge p v)) 9 ≡ Pair p v
+  pub restart_pair : (p v : ℕ) → FitsPair p v → connection_in (reply_octets flag r (reply.RestartAcknowledge p v)) 9 ≡ pair_read p v
   restart_pair p v h = sent_pair (reply.RestartAcknowledge p v) h ∙ pair_said p v [] h
 
-  pub restart_class_lem : (p v : ℕ) → FitsPair p v → restart_in (reply_octets flag r (reply.RestartAcknowledge p v)) 9 ≡ Class 0x80
+  pub restart_class_lem : (p v : ℕ) → FitsPair p v → restart_in (reply_octets flag r (reply.RestartAcknowledge p v)) 9 ≡ Readable 0x80
   restart_class_lem p v h = sent_restart (reply.RestartAcknowledge p v) h
 
-  pub restart_all_class : restart_in (reply_octets flag r reply.RestartAcknowledgeAll) 9 ≡ Class 0x82
+  pub restart_all_class : restart_in (reply_octets flag r reply.RestartAcknowledgeAll) 9 ≡ Readable 0x82
   restart_all_class = sent_restart reply.RestartAcknowledgeAll tt
 
   -- document 02, R-4: our own RESTART
-  pub own_restart_pair : (p v : ℕ) → FitsPair p v → connection_in (reply_octets flag r (reply.Restart p v)) 9 ≡ Pair p v
+  pub own_restart_pair : (p v : ℕ) → FitsPair p v → connection_in (reply_octets flag r (reply.Restart p v)) 9 ≡ pair_read p v
   own_restart_pair p v h = sent_pair (reply.Restart p v) h ∙ pair_said p v [] h
 
-  pub own_restart_class : (p v : ℕ) → FitsPair p v → restart_in (reply_octets flag r (reply.Restart p v)) 9 ≡ Class 0x80
+  pub own_restart_class : (p v : ℕ) → FitsPair p v → restart_in (reply_octets flag r (reply.Restart p v)) 9 ≡ Readable 0x80
   own_restart_class p v h = sent_restart (reply.Restart p v) h
 
-  pub own_restart_all_class : restart_in (reply_octets flag r reply.RestartAll) 9 ≡ Class 0x82
+  pub own_restart_all_class : restart_in (reply_octets flag r reply.RestartAll) 9 ≡ Readable 0x82
   own_restart_all_class = sent_restart reply.RestartAll tt
 
-  pub setup_pair : (p v : ℕ) (offered : List ℕ) → OfferBody offered → FitsPair p v → connection_in (setup_octets r p v offered) 9 ≡ Pair p v
+  pub setup_pair : (p v : ℕ) (offered : List ℕ) → OfferBody offered → FitsPair p v → connection_in (setup_octets r p v offered) 9 ≡ pair_read p v
   setup_pair p v offered b h =
       ap (λ (w : List ℕ). connection_in w 9) (setup_written r p v offered b)
       ∙ pair_back (setup_meant r p v offered) (setup_well_formed r p v offered b small)

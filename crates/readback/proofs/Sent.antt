@@ -85,7 +85,7 @@ pair_octets p v =
     octets_cons (omega arith)
     (octets_cons (omega arith) (octets_cons (omega arith) (one_octet (omega arith))))
 
-identifiers-octets : (m : Mandatory) → Octets (identifiers m)
+identifiers-octets : (m : Mandatory Bool) → Octets (identifiers m)
 identifiers-octets m =
     octets-append
     (octets-append

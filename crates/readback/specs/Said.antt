@@ -5,14 +5,9 @@
 use Rattle.std.specs.Prelude.{ℕ, ◌&&◌, cond, List, [], ◌∷◌, eqb}
 use Rattle.contents.specs.Contents.{cause_number, call_state_value, connection_in as pair_in, restart_class}
 use Rattle.contents.specs.Fits.{fits}
-use Rattle.elements.specs.declared.CauseRead.{CauseRead}
-use Rattle.elements.specs.declared.CauseRead.TheVariants as cause
-use Rattle.elements.specs.declared.CallStateRead.{CallStateRead}
-use Rattle.elements.specs.declared.CallStateRead.TheVariants as call_state
-use Rattle.elements.specs.declared.ConnectionRead.{ConnectionRead}
-use Rattle.elements.specs.declared.ConnectionRead.TheVariants as connection
-use Rattle.elements.specs.declared.RestartRead.{RestartRead}
-use Rattle.elements.specs.declared.RestartRead.TheVariants as restart
+use Rattle.elements.specs.declared.Read.{Read}
+use Rattle.elements.specs.declared.Read.TheVariants as elem
+use Rattle.channels.specs.declared.Pair.{Pair}
 use Rattle.elements.specs.Elements.{action_fits}
 use Rattle.replies.specs.Message.{Element}
 
@@ -24,14 +19,14 @@ value_in id absent unread value (e ∷ es) =
     (cond (action_fits id e.action && fits id e.contents) (value e.contents) unread)
     (value_in id absent unread value es)
 
-abbrev pub cause_of : List Element → CauseRead
-cause_of es = value_in 0x08 cause.Absent cause.Unreadable (λ c. cause.Number (cause_number c)) es
+abbrev pub cause_of : List Element → Read ℕ
+cause_of es = value_in 0x08 elem.Absent elem.Unreadable (λ c. elem.Readable (cause_number c)) es
 
-abbrev pub state_of : List Element → CallStateRead
-state_of es = value_in 0x14 call_state.Absent call_state.Unreadable (λ c. call_state.Value (call_state_value c)) es
+abbrev pub state_of : List Element → Read ℕ
+state_of es = value_in 0x14 elem.Absent elem.Unreadable (λ c. elem.Readable (call_state_value c)) es
 
-abbrev pub pair_of : List Element → ConnectionRead
-pair_of es = value_in 0x5A connection.Absent connection.Unreadable (λ c. connection.Pair (pair_in c).vpci (pair_in c).vci) es
+abbrev pub pair_of : List Element → Read Pair
+pair_of es = value_in 0x5A elem.Absent elem.Unreadable (λ c. elem.Readable (pair_in c)) es
 
-abbrev pub restart_of : List Element → RestartRead
-restart_of es = value_in 0x79 restart.Absent restart.Unreadable (λ c. restart.Class (restart_class c)) es
+abbrev pub restart_of : List Element → Read ℕ
+restart_of es = value_in 0x79 elem.Absent elem.Unreadable (λ c. elem.Readable (restart_class c)) es

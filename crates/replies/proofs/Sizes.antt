@@ -2,18 +2,14 @@
 --   optional-size      an optional octet counts the same whatever it is
 --   identifiers-size   so the named elements can be counted by themselves
 --   field-size         a field has as many octets as it says
---   cause-octets       Cause: its length field counts the octets of the diagnostic field
 -- Assumes nothing.
-use Prim.Native.Nat.{ℕ, suc, ◌+◌, ◌%◌, ◌≤◌}
+use Prim.Native.Nat.{ℕ, ◌+◌, ◌≤◌}
 use native.Mathlib.Omega.{arith}
 use mathlib.Core.Path.{◌≡◌, refl}
 use mathlib.Core.Bool.{Bool, true, false}
-use mathlib.Core.List.{[], ◌∷◌, ◌++◌}
+use mathlib.Core.List.{◌++◌}
 use lib.ListN.{length, length-append, length-take}
-use Rattle.octets.specs.Octets.{high, low}
-use Rattle.replies.specs.Message.{element_octets}
-use Rattle.replies.specs.Reply.{in_field, optional, identifiers, diagnostic_octets, cause}
-use Rattle.replies.specs.declared.Cause.{Cause}
+use Rattle.replies.specs.Reply.{in_field, optional, identifiers}
 use Rattle.replies.specs.declared.Field.{Field}
 use Rattle.replies.specs.declared.Mandatory.{Mandatory}
 
@@ -21,7 +17,7 @@ pub optional-size : (there : Bool) (octet : ℕ) → length (optional there octe
 optional-size true octet = refl
 optional-size false octet = refl
 
-pub identifiers-size : (m : Mandatory)
+pub identifiers-size : (m : Mandatory Bool)
     → length (identifiers m)
     ≡ length (optional m.traffic 0) + length (optional m.qos 0) + length (optional m.bearer 0) + length (optional m.called 0)
 identifiers-size m =
@@ -37,12 +33,3 @@ identifiers-size m =
 
 pub field-size : (f : Field) → length f.octets ≡ 4 → f.size ≤ 4 → length (in_field f) ≡ f.size
 field-size f long few = simp length-take (omega arith)
-
-pub cause-octets : (why : Cause) (f : Field) → length f.octets ≡ 4 → f.size ≤ 4 → in_field f ≡ diagnostic_octets why.diagnostic
-    → element_octets (cause why) ≡ (0x08 ∷ 0x80 ∷ 0 ∷ (2 + f.size) ∷ 0x81 ∷ (why.number % 128 + 0x80) ∷ []) ++ in_field f
-cause-octets why f long few e =
-    let many = field-size f long few in
-    let size : suc (suc (length (in_field f))) ≡ 2 + f.size = omega arith in
-    let top : high (2 + f.size) ≡ 0 = omega arith in
-    let bottom : low (2 + f.size) ≡ 2 + f.size = omega arith in
-    rw (← e, size, top, bottom)

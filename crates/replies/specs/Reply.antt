@@ -30,7 +30,7 @@ abbrev pub optional : Bool → ℕ → List ℕ
 optional there octet = cond there (octet ∷ []) []
 
 -- "96 with the missing of 59 5C 5E 70, ascending; 100 with the unreadable of these four, ascending"
-abbrev pub identifiers : Mandatory → List ℕ
+abbrev pub identifiers : Mandatory Bool → List ℕ
 identifiers m = optional m.traffic 0x59 ++ optional m.qos 0x5C ++ optional m.bearer 0x5E ++ optional m.called 0x70
 
 -- none; a message type or an identifier; SETUP's identifiers; VPCI and VCI; "310"

@@ -16,13 +16,13 @@ pub const REPLY_ROOM: usize = 1024;
 
 pub const BODY_ROOM: usize = 512;
 
-// Some of the four elements that SETUP must have: 59, 5C, 5E and 70.
+// A value for each of the four elements that SETUP must have: 59, 5C, 5E and 70.
 #[derive(Clone, Copy)]
-pub struct Mandatory {
-    pub traffic: bool,
-    pub qos: bool,
-    pub bearer: bool,
-    pub called: bool,
+pub struct Mandatory<T> {
+    pub traffic: T,
+    pub qos: T,
+    pub bearer: T,
+    pub called: T,
 }
 
 // What a cause's diagnostic field says.
@@ -31,7 +31,7 @@ pub enum Diagnostic {
     None,
     // A message type, or the identifier of an element.
     Octet(u8),
-    Elements(Mandatory),
+    Elements(Mandatory<bool>),
     // VPCI and VCI.
     Pair(u16, u16),
     // The digits "310".
@@ -73,53 +73,49 @@ pub enum Outgoing {
 }
 
 // The octets of a diagnostic field, at most four, at the front of an array.
+// Stays an array with a count: no heap (project rule).
 #[derive(Clone, Copy)]
 struct Field {
     octets: [u8; 4],
     size: usize,
 }
 
-// One octet more, if it is there.
-fn field_with(field: Field, there: bool, octet: u8) -> Field
-    requires { field.size < 4 }
-    ensures result_value { in_field result ≡ in_field field ++ optional there octet }
-    ensures size_bound { result.size ≤ field.size + 1 }
-{
-    if !there {
-        return field;
-    }
-    let at = field.size;
-    let mut octets = field.octets;
-    octets[at] = octet;
-    Field {
-        octets: octets,
-        size: at + 1,
+impl Field {
+    // One octet more, if it is there.
+    fn with(mut self, there: bool, octet: u8) -> Field
+        requires { self.size < 4 }
+        ensures result_value { in_field result ≡ in_field self ++ optional there octet }
+        ensures size_bound { result.size ≤ self.size + 1 }
+    {
+        if there {
+            self.octets[self.size] = octet;
+            self.size += 1;
+        }
+        self
     }
 }
 
 // The identifiers of the elements that are named, ascending.
-fn identifier_field(named: Mandatory) -> Field
+fn identifier_field(named: Mandatory<bool>) -> Field
     ensures result_value { in_field result ≡ identifiers named }
     ensures size_bound { result.size ≤ 4 }
 {
-    let none = Field {
+    Field {
         octets: [0; 4],
         size: 0,
-    };
-    let first = field_with(none, named.traffic, 0x59);
-    let second = field_with(first, named.qos, 0x5C);
-    let third = field_with(second, named.bearer, 0x5E);
-    field_with(third, named.called, 0x70)
+    }
+    .with(named.traffic, 0x59)
+    .with(named.qos, 0x5C)
+    .with(named.bearer, 0x5E)
+    .with(named.called, 0x70)
 }
 
 fn pair_field(vpci: u16, vci: u16) -> Field
     ensures result_value { in_field result ≡ high vpci ∷ low vpci ∷ high vci ∷ low vci ∷ [] }
     ensures size_bound { result.size ≤ 4 }
 {
-    let p = (vpci / 256 % 256) as u8;
-    let q = (vpci % 256) as u8;
-    let v = (vci / 256 % 256) as u8;
-    let w = (vci % 256) as u8;
+    let [p, q] = vpci.to_be_bytes();
+    let [v, w] = vci.to_be_bytes();
     Field {
         octets: [p, q, v, w],
         size: 4,
@@ -142,7 +138,7 @@ fn diagnostic_field(diagnostic: Diagnostic) -> Field
         Diagnostic::Elements(named) => identifier_field(named),
         Diagnostic::Pair(vpci, vci) => pair_field(vpci, vci),
         Diagnostic::Timer => Field {
-            octets: [0x33, 0x31, 0x30, 0],
+            octets: *b"310\0",
             size: 3,
         },
     }
@@ -152,12 +148,9 @@ fn put_header(room: &mut [u8], flag: bool, reference: u32, kind: u8, size: usize
     requires { 9 ≤ length room.old }
     ensures { Wrote room.old 0 (header flag reference kind size) room.new result }
 {
-    let top = (reference / 65536 % 128) as u8;
-    let middle = (reference / 256 % 256) as u8;
-    let bottom = (reference % 256) as u8;
-    let high = (size / 256 % 256) as u8;
-    let low = (size % 256) as u8;
-    let first = flag_octet(flag) + top;
+    let [_, top, middle, bottom] = reference.to_be_bytes();
+    let [.., high, low] = size.to_be_bytes();
+    let first = flag_octet(flag) + top % 128;
     octets::put(
         room,
         0,
@@ -176,13 +169,10 @@ fn put_cause(room: &mut [u8], at: usize, why: Cause) -> usize
     requires { at + 10 ≤ length room.old }
     ensures { Wrote room.old at (element_octets (cause why)) room.new result }
 {
-    let diagnostic = why.diagnostic;
-    let field = diagnostic_field(diagnostic);
-    let size = field.size;
+    let Field { octets, size } = diagnostic_field(why.diagnostic);
     let low = (2 + size) as u8;
     let number = why.number % 128 + 0x80;
     let next = octets::put(room, at, &[0x08, 0x80, 0, low, 0x81, number]);
-    let octets = field.octets;
     octets::put(room, next, &octets[..size])
 }
 
@@ -198,10 +188,8 @@ fn put_connection(room: &mut [u8], at: usize, vpci: u16, vci: u16) -> usize
     requires { at + 9 ≤ length room.old }
     ensures { Wrote room.old at (element_octets (connection vpci vci)) room.new result }
 {
-    let p = (vpci / 256 % 256) as u8;
-    let q = (vpci % 256) as u8;
-    let v = (vci / 256 % 256) as u8;
-    let w = (vci % 256) as u8;
+    let [p, q] = vpci.to_be_bytes();
+    let [v, w] = vci.to_be_bytes();
     octets::put(room, at, &[0x5A, 0x80, 0, 5, 0x88, p, q, v, w])
 }
 
@@ -234,9 +222,7 @@ fn write_cause(room: &mut [u8], flag: bool, reference: u32, kind: u8, why: Cause
     requires { 1024 ≤ length room.old }
     ensures { Fills room.old (octets (message flag reference kind (cause why ∷ []))) room.new result }
 {
-    let diagnostic = why.diagnostic;
-    let field = diagnostic_field(diagnostic);
-    let size = 6 + field.size;
+    let size = 6 + diagnostic_field(why.diagnostic).size;
     let at = put_header(room, flag, reference, kind, size);
     put_cause(room, at, why)
 }
@@ -245,9 +231,7 @@ fn write_status(room: &mut [u8], flag: bool, reference: u32, state: u8, why: Cau
     requires { 1024 ≤ length room.old }
     ensures { Fills room.old (octets (message flag reference 0x7D (call_state state ∷ cause why ∷ []))) room.new result }
 {
-    let diagnostic = why.diagnostic;
-    let field = diagnostic_field(diagnostic);
-    let size = 11 + field.size;
+    let size = 11 + diagnostic_field(why.diagnostic).size;
     let first = put_header(room, flag, reference, 0x7D, size);
     let second = put_short(room, first, 0x14, state);
     put_cause(room, second, why)

@@ -7,14 +7,13 @@
 --   expire_second, expire_effect   T316 runs out: a second time, and at all
 --   put_back                   the host puts all marked pairs back
 -- Assumes nothing.
+use Rattle.channels.specs.declared.Pair.{Pair}
 use Rattle.channels.specs.Channels.{pair}
 use Rattle.std.specs.Prelude.{ℕ, ◌+◌, ◌<◌, Bool, true, false, cond, ◌&&◌, eqb}
 use Rattle.channels.specs.declared.Named.{Named}
 use Rattle.channels.specs.declared.Named.TheVariants.{All, One}
-use Rattle.elements.specs.declared.ConnectionRead.{ConnectionRead}
-use Rattle.elements.specs.declared.ConnectionRead.TheVariants as connection_read
-use Rattle.elements.specs.declared.RestartRead.{RestartRead}
-use Rattle.elements.specs.declared.RestartRead.TheVariants as restart_read
+use Rattle.elements.specs.declared.Read.{Read}
+use Rattle.elements.specs.declared.Read.TheVariants as elem
 use Rattle.replies.specs.declared.Reply.{Reply}
 use Rattle.replies.specs.declared.Reply.TheVariants as reply
 use Rattle.replies.specs.declared.Outgoing.TheVariants as outgoing
@@ -53,22 +52,22 @@ abbrev pub ending : Named → Ending → Effect
 ending n why = record { change = Restart n why; flag = false; reference = 0; outgoing = outgoing.Reply reply.None }
 
 -- "One with 79, and for one pair 5A, readable and the same"
-abbrev pub is_class : ℕ → RestartRead → Bool
-is_class class restart_read.Absent = false
-is_class class restart_read.Unreadable = false
-is_class class (restart_read.Class c) = eqb c class
+abbrev pub is_class : ℕ → Read ℕ → Bool
+is_class class elem.Absent = false
+is_class class elem.Unreadable = false
+is_class class (elem.Readable c) = eqb c class
 
-abbrev pub is_connection : ℕ → ℕ → ConnectionRead → Bool
-is_connection p v connection_read.Absent = false
-is_connection p v connection_read.Unreadable = false
-is_connection p v (connection_read.Pair q w) = eqb q p && eqb w v
+abbrev pub is_connection : ℕ → ℕ → Read Pair → Bool
+is_connection p v elem.Absent = false
+is_connection p v elem.Unreadable = false
+is_connection p v (elem.Readable c) = eqb c.vpci p && eqb c.vci v
 
-abbrev pub is_same : Named → RestartRead → ConnectionRead → Bool
+abbrev pub is_same : Named → Read ℕ → Read Pair → Bool
 is_same All r c = is_class 0x82 r
 is_same (One pv) r c = is_class 0x80 r && is_connection pv.vpci pv.vci c
 
 -- "ends the RESTART ..; Any other is discarded"
-abbrev pub acknowledge_effect : GlobalState → RestartRead → ConnectionRead → Effect
+abbrev pub acknowledge_effect : GlobalState → Read ℕ → Read Pair → Effect
 acknowledge_effect Null r c = quiet
 acknowledge_effect (RestartRequest n second d) r c = cond (is_same n r c) (ending n Acknowledged) quiet
 

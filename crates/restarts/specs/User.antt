@@ -9,10 +9,9 @@ use Rattle.channels.specs.Channels.{pair, permanent, known_vpci}
 use Rattle.channels.specs.declared.Named.{Named}
 use Rattle.channels.specs.declared.Named.TheVariants as named
 use Rattle.channels.specs.declared.Pool.{Pool}
-use Rattle.elements.specs.declared.ConnectionRead.{ConnectionRead}
-use Rattle.elements.specs.declared.ConnectionRead.TheVariants as connection_read
-use Rattle.elements.specs.declared.RestartRead.{RestartRead}
-use Rattle.elements.specs.declared.RestartRead.TheVariants as restart_read
+use Rattle.elements.specs.declared.Read.{Read}
+use Rattle.channels.specs.declared.Pair.{Pair}
+use Rattle.elements.specs.declared.Read.TheVariants as elem
 use Rattle.replies.specs.declared.Diagnostic.{Diagnostic}
 use Rattle.replies.specs.declared.Diagnostic.TheVariants as diagnostic
 use Rattle.replies.specs.declared.Reply.{Reply}
@@ -35,19 +34,19 @@ restarting named answer = record { change = Restart named User; flag = true; ref
 -- "For 80: 5A absent, STATUS 96; unreadable, or its VPCI in no range and in no permanent pair, STATUS 100; both with diagnostic 5A;
 -- VCI under 32 or a permanent pair, STATUS 82 with VPCI and VCI. Else calls on the pair .. are gone, and RESTART ACKNOWLEDGE repeats
 -- 79 and, for 80, 5A"
-abbrev pub pair_restart : ℕ → Pool → ConnectionRead → Effect
-pair_restart state pool connection_read.Absent = restart_status state 96 (diagnostic.Octet 0x5A)
-pair_restart state pool connection_read.Unreadable = restart_status state 100 (diagnostic.Octet 0x5A)
-pair_restart state pool (connection_read.Pair p v) =
-    cond (known_vpci pool p)
-    (cond (ltb v 32 || permanent pool p v)
-    (restart_status state 82 (diagnostic.Pair p v))
-    (restarting (named.One (pair p v)) (reply.RestartAcknowledge p v)))
+abbrev pub pair_restart : ℕ → Pool → Read Pair → Effect
+pair_restart state pool elem.Absent = restart_status state 96 (diagnostic.Octet 0x5A)
+pair_restart state pool elem.Unreadable = restart_status state 100 (diagnostic.Octet 0x5A)
+pair_restart state pool (elem.Readable c) =
+    cond (known_vpci pool c.vpci)
+    (cond (ltb c.vci 32 || permanent pool c.vpci c.vci)
+    (restart_status state 82 (diagnostic.Pair c.vpci c.vci))
+    (restarting (named.One c) (reply.RestartAcknowledge c.vpci c.vci)))
     (restart_status state 100 (diagnostic.Octet 0x5A))
 
 -- "79 absent, STATUS 96; unreadable, STATUS 100; both with diagnostic 79. .. or all calls for 82 (5A not looked at), are gone"
-abbrev pub restart_effect : ℕ → Pool → RestartRead → ConnectionRead → Effect
-restart_effect state pool restart_read.Absent connection = restart_status state 96 (diagnostic.Octet 0x79)
-restart_effect state pool restart_read.Unreadable connection = restart_status state 100 (diagnostic.Octet 0x79)
-restart_effect state pool (restart_read.Class c) connection =
+abbrev pub restart_effect : ℕ → Pool → Read ℕ → Read Pair → Effect
+restart_effect state pool elem.Absent connection = restart_status state 96 (diagnostic.Octet 0x79)
+restart_effect state pool elem.Unreadable connection = restart_status state 100 (diagnostic.Octet 0x79)
+restart_effect state pool (elem.Readable c) connection =
     cond (eqb c 0x82) (restarting named.All reply.RestartAcknowledgeAll) (pair_restart state pool connection)

@@ -11,13 +11,13 @@
 ghost use Rattle.std.specs.Prelude.{◌≡◌, ◌||◌, ◌≤◌, ltb};
 ghost use Rattle.channels.specs.Channels.{permanent};
 ghost use Rattle.calls.specs.Timers.{largest_reading};
-ghost use Rattle.elements.specs.Values.{connection_in, restart_in};
+ghost use Rattle.elements.specs.Values.{connection_in, restart_in, pair_read};
 ghost use Rattle.restarts.specs.User.{restart_status, restarting, pair_restart, restart_effect};
 ghost use Rattle.restarts.specs.Own.{Fits, named_by, restart_of, requested, ending, is_class, is_connection, is_same, acknowledge_effect, expire_second, expire_effect, put_back};
 
 use channels::{Named, Pair, Pool};
 use effects::{Change, Effect, Ending, quiet, replying};
-use elements::{ConnectionRead, RestartRead};
+use elements::Read;
 use replies::{Diagnostic, Outgoing, Reply};
 use service::{GlobalState, OutOfService, T316};
 
@@ -52,7 +52,7 @@ fn is_barred(pool: Pool, pair: Pair) -> bool
 }
 
 fn restart_pair(state: u8, pool: Pool, pair: Pair) -> Effect
-    ensures { result ≡ pair_restart state pool (ConnectionRead.Pair pair.vpci pair.vci) }
+    ensures { result ≡ pair_restart state pool (Read.Readable pair) }
 {
     if !pool.knows_vpci(pair.vpci) {
         return restart_status(state, 100, Diagnostic::Octet(0x5A));
@@ -71,14 +71,14 @@ fn restart_connection(state: u8, pool: Pool, m: &[u8]) -> Effect
     ensures { result ≡ pair_restart state pool (connection_in m.now 9) }
 {
     match elements::connection(m, 9) {
-        ConnectionRead::Absent => restart_status(state, 96, Diagnostic::Octet(0x5A)),
-        ConnectionRead::Unreadable => restart_status(state, 100, Diagnostic::Octet(0x5A)),
-        ConnectionRead::Pair(vpci, vci) => restart_pair(state, pool, Pair { vpci, vci }),
+        Read::Absent => restart_status(state, 96, Diagnostic::Octet(0x5A)),
+        Read::Unreadable => restart_status(state, 100, Diagnostic::Octet(0x5A)),
+        Read::Readable(pair) => restart_pair(state, pool, pair),
     }
 }
 
 fn restart_class(state: u8, pool: Pool, m: &[u8], class: u8) -> Effect
-    ensures { result ≡ restart_effect state pool (RestartRead.Class class) (connection_in m.now 9) }
+    ensures { result ≡ restart_effect state pool (Read.Readable class) (connection_in m.now 9) }
 {
     if class == 0x82 {
         return restarting(Named::All, Reply::RestartAcknowledgeAll);
@@ -91,9 +91,9 @@ pub fn restart(state: u8, pool: Pool, m: &[u8]) -> Effect
     ensures { result ≡ restart_effect state pool (restart_in m.now 9) (connection_in m.now 9) }
 {
     match elements::restart(m, 9) {
-        RestartRead::Absent => restart_status(state, 96, Diagnostic::Octet(0x79)),
-        RestartRead::Unreadable => restart_status(state, 100, Diagnostic::Octet(0x79)),
-        RestartRead::Class(class) => restart_class(state, pool, m, class),
+        Read::Absent => restart_status(state, 96, Diagnostic::Octet(0x79)),
+        Read::Unreadable => restart_status(state, 100, Diagnostic::Octet(0x79)),
+        Read::Readable(class) => restart_class(state, pool, m, class),
     }
 }
 
@@ -157,22 +157,14 @@ fn end(named: Named, why: Ending) -> Effect
 fn is_class(m: &[u8], class: u8) -> bool
     ensures { result ≡ is_class class (restart_in m.now 9) }
 {
-    match elements::restart(m, 9) {
-        RestartRead::Absent => false,
-        RestartRead::Unreadable => false,
-        RestartRead::Class(c) => c == class,
-    }
+    matches!(elements::restart(m, 9), Read::Readable(c) if c == class)
 }
 
 // If the Connection identifier is this pair.
 fn is_connection(m: &[u8], pair: Pair) -> bool
     ensures { result ≡ is_connection pair.vpci pair.vci (connection_in m.now 9) }
 {
-    match elements::connection(m, 9) {
-        ConnectionRead::Absent => false,
-        ConnectionRead::Unreadable => false,
-        ConnectionRead::Pair(p, v) => p == pair.vpci && v == pair.vci,
-    }
+    matches!(elements::connection(m, 9), Read::Readable(named) if named == pair)
 }
 
 // If a RESTART ACKNOWLEDGE has the elements of our RESTART.

@@ -2,7 +2,8 @@
 --   Acts           the view: what a change does, nine ways
 --   does_acts      what every accepted event does, in it
 -- Assumes nothing.
-use Rattle.std.specs.Prelude.{Some}
+use Rattle.verdicts.specs.declared.Notice.TheVariants as notice
+use Rattle.std.specs.Prelude.{Some, None}
 use Prim.Native.Nat.{ℕ}
 use mathlib.Core.Path.{◌≡◌, ap}
 use mathlib.Core.Logic.{◌≢◌}
@@ -36,10 +37,10 @@ use Rattle.safety.specs.Flags.{NoNotice}
 -- a call is asked, goes to another state, is answered, is gone; calls on the pairs of a RESTART are gone; our RESTART is sent, pairs are put back
 pub data Acts (t : Table) (e : Event) : Change → Type 0 where
   keeps : Acts t e Keep
-  asks : (i : ℕ) (c : Call) (q : State) → place is_empty t.slots.all ≡ Some i → ¬ NoNotice e → Acts t e (Put i (live_slot c q) 1)
-  moves : (i : ℕ) (c : Call) (q r : State) → HasCall t i c q → (¬ NoNotice e → r ≢ N10) → Acts t e (Put i (live_slot c r) 0)
-  answers : (i : ℕ) (c : Call) (q : State) → HasCall t i c q → q ≢ N10 → ¬ NoNotice e → Acts t e (Put i (live_slot c N10) 2)
-  ends : (i : ℕ) (c : Call) (q : State) → HasCall t i c q → ¬ NoNotice e → Acts t e (Put i no_slot 3)
+  asks : (i : ℕ) (c : Call) (q : State) → place is_empty t.slots.all ≡ Some i → ¬ NoNotice e → Acts t e (Put i (live_slot c q) (Some notice.Asked))
+  moves : (i : ℕ) (c : Call) (q r : State) → HasCall t i c q → (¬ NoNotice e → r ≢ N10) → Acts t e (Put i (live_slot c r) None)
+  answers : (i : ℕ) (c : Call) (q : State) → HasCall t i c q → q ≢ N10 → ¬ NoNotice e → Acts t e (Put i (live_slot c N10) (Some notice.Answered))
+  ends : (i : ℕ) (c : Call) (q : State) → HasCall t i c q → ¬ NoNotice e → Acts t e (Put i no_slot (Some notice.Gone))
   loses : (i : ℕ) (c : Call) (q : State) → HasCall t i c q → ¬ NoNotice e → Acts t e (Doubt i c.pair)
   restarts : (which : Named) (why : Ending) → ¬ NoNotice e → Acts t e (Restart which why)
   requests : (which : Named) (second : Bool) (d : ℕ) → Acts t e (Request which second d)
@@ -61,7 +62,7 @@ asked_other q (verdict.in_N9 d) = N9_other d
 
 -- a verdict on the call of slot i
 module _ (t : Table) (e : Event) (own : ¬ NoNotice e) (i : ℕ) (c : Call) (q : State) (live : HasCall t i c q) where
-  to_N12 : (k : Clearing) (d : ℕ) → Acts t e (Put i (live_slot c (N12 k d)) 0)
+  to_N12 : (k : Clearing) (d : ℕ) → Acts t e (Put i (live_slot c (N12 k d)) None)
   to_N12 k d = moves i c q (N12 k d) live (λ _. N12_other k d)
 
   judged_acts : (reading : ℕ) (full : Bool) (v : Verdict) → verdict.Judged reading full q v → Acts t e (fated i c v.fate)

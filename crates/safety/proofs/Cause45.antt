@@ -14,6 +14,7 @@ use native.Mathlib.Omega.{arith}
 use lib.Dec.{eqb}
 use lib.ListN.{get_or}
 use borrow.Author.Tests.{eq-eqb, not-true}
+use Rattle.std.specs.Prelude.{Result, Ok, Err, ⊤}
 use Rattle.traffic.specs.Traffic.{member}
 use Rattle.channels.specs.declared.Named.{Named}
 use Rattle.channels.specs.declared.Named.TheVariants as named
@@ -22,19 +23,17 @@ use Rattle.calls.specs.declared.Clearing.{Clearing}
 use Rattle.calls.specs.declared.State.{State}
 use Rattle.calls.specs.declared.State.TheVariants.{N3, N6, N9, N10, N12}
 use Rattle.header.specs.declared.Header.{Header}
-use Rattle.elements.specs.declared.CauseRead.{CauseRead}
-use Rattle.elements.specs.declared.CauseRead.TheVariants as cause_read
-use Rattle.elements.specs.declared.CallStateRead.{CallStateRead}
-use Rattle.elements.specs.declared.CallStateRead.TheVariants as call_state_read
+use Rattle.elements.specs.declared.Read.{Read}
+use Rattle.elements.specs.declared.Read.TheVariants as elem
 use Rattle.elements.specs.Values.{cause_in, call_state_in}
+use Rattle.replies.specs.declared.Cause.{Cause}
 use Rattle.replies.specs.declared.Reply.{Reply}
 use Rattle.replies.specs.declared.Reply.TheVariants as reply
 use Rattle.replies.specs.declared.Outgoing.{Outgoing}
 use Rattle.replies.specs.declared.Outgoing.TheVariants as outgoing
 use Rattle.replies.specs.Reply.{reply_octets, sent_octets}
-use Rattle.setup.specs.declared.Admission.{Admission}
-use Rattle.setup.specs.declared.Admission.TheVariants.{Admitted, Refused}
-use Rattle.setup.specs.Setup.{absent, broken, found_in, chosen, some_named, multipoint_in, allowed_in, admission}
+use Rattle.elements.specs.Elements.{is_absent, is_unreadable}
+use Rattle.setup.specs.Setup.{found_in, chosen, some_named, multipoint_in, allowed_in, admission}
 use Rattle.verdicts.specs.declared.Verdict.{Verdict}
 use Rattle.judging.specs.Judge.{release_complete, release_reply, status_reply, no_call_reply, global_reply}
 use Rattle.restarts.specs.Own.{restart_of}
@@ -111,21 +110,21 @@ says_45 flag r (outgoing.Setup p v) body s = unsaid _ refl s
 abbrev pub Not45 : Reply → Type 0
 Not45 a = is45 a ≡ false
 
-abbrev pub AdmissionNot45 : Admission → Type 0
-AdmissionNot45 Admitted = Unit {0}
-AdmissionNot45 (Refused c) = Not45 (reply.ReleaseCompleteWith c)
+abbrev pub AdmissionNot45 : Result ⊤ Cause → Type 0
+AdmissionNot45 (Ok u) = Unit {0}
+AdmissionNot45 (Err c) = Not45 (reply.ReleaseCompleteWith c)
 
 pub admission_not_45 : (m : List ℕ) (from : ℕ) → AdmissionNot45 (admission m from)
 admission_not_45 m from =
-    verdict.by_cond AdmissionNot45 (some_named (chosen absent (found_in m from))) _ _ refl
-    (verdict.by_cond AdmissionNot45 (some_named (chosen broken (found_in m from))) _ _ refl
+    verdict.by_cond AdmissionNot45 (some_named (chosen is_absent (found_in m from))) _ _ refl
+    (verdict.by_cond AdmissionNot45 (some_named (chosen is_unreadable (found_in m from))) _ _ refl
     (verdict.by_cond AdmissionNot45 (multipoint_in m (found_in m from).bearer) _ _ refl
-    (verdict.by_cond AdmissionNot45 (allowed_in m (found_in m from).traffic) Admitted _ tt refl)))
+    (verdict.by_cond AdmissionNot45 (allowed_in m (found_in m from).traffic) (Ok tt) _ tt refl)))
 
-status_reply_not_45 : (r : CallStateRead) → Not45 (status_reply r)
-status_reply_not_45 call_state_read.Absent = refl
-status_reply_not_45 call_state_read.Unreadable = refl
-status_reply_not_45 (call_state_read.Value s) = verdict.by_cond Not45 (eqb s 0) _ _ refl refl
+status_reply_not_45 : (r : Read ℕ) → Not45 (status_reply r)
+status_reply_not_45 elem.Absent = refl
+status_reply_not_45 elem.Unreadable = refl
+status_reply_not_45 (elem.Readable s) = verdict.by_cond Not45 (eqb s 0) _ _ refl refl
 
 pub no_call_not_45 : (m : List ℕ) (h : Header) → Not45 (no_call_reply m h)
 no_call_not_45 m h =
@@ -151,12 +150,12 @@ says_not_45 q k a verdict.enquired = refl
 says_not_45 q k a verdict.unknown = refl
 says_not_45 q k a verdict.unexpected = refl
 
-complete_not_45 : (r : CauseRead) → Not45 (release_complete r)
-complete_not_45 cause_read.Absent = refl
-complete_not_45 cause_read.Unreadable = refl
-complete_not_45 (cause_read.Number n) = refl
+complete_not_45 : (r : Read ℕ) → Not45 (release_complete r)
+complete_not_45 elem.Absent = refl
+complete_not_45 elem.Unreadable = refl
+complete_not_45 (elem.Readable n) = refl
 
-release_not_45 : (q : State) (r : CauseRead) → Not45 (release_reply q r)
+release_not_45 : (q : State) (r : Read ℕ) → Not45 (release_reply q r)
 release_not_45 N3 r = complete_not_45 r
 release_not_45 (N6 d) r = complete_not_45 r
 release_not_45 (N9 d) r = complete_not_45 r

@@ -201,8 +201,8 @@ named_live which s = hold_live which s.hold
     hold_live : (which : Named) (h : Hold) → is_named which (record { hold = h }) ≡ true → (c : Call) × ((q : State) × (h ≡ Live c q))
     hold_live named.All Empty e = clash e refl
     hold_live named.All (Live c q) e = (c, (q, refl))
-    hold_live (named.One (pair p v)) Empty e = clash e refl
-    hold_live (named.One (pair p v)) (Live c q) e = (c, (q, refl))
+    hold_live (named.One c) Empty e = clash e refl
+    hold_live (named.One which) (Live c q) e = (c, (q, refl))
 
 module _ (t : Table) (whole : HasSlots t) (e : Event) (reading : ℕ) (which : Named) (why : Ending) where
   abbrev after : Table

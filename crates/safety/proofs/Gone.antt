@@ -20,8 +20,8 @@ use Rattle.calls.specs.declared.Hold.TheVariants.{Live}
 use Rattle.calls.specs.declared.Slot.{Slot}
 use Rattle.calls.specs.Calls.{no_slot, live_slot, is_empty, is_named, emptied}
 use Rattle.first.proofs.First.{placed}
-use Rattle.elements.specs.declared.CauseRead.{CauseRead}
-use Rattle.elements.specs.declared.CauseRead.TheVariants as cause_read
+use Rattle.elements.specs.declared.Read.{Read}
+use Rattle.elements.specs.declared.Read.TheVariants as elem
 use Rattle.elements.specs.Values.{cause_in}
 use Rattle.replies.specs.Reply.{kind_of}
 use Rattle.verdicts.specs.declared.Verdict.{Verdict}
@@ -103,12 +103,12 @@ held_until_gone t e whole j c q live =
 
 -- RELEASE.
 
-complete_kind : (r : CauseRead) → kind_of (release_complete r) ≢ 0x4D
-complete_kind cause_read.Absent e = omega arith
-complete_kind cause_read.Unreadable e = omega arith
-complete_kind (cause_read.Number n) e = omega arith
+complete_kind : (r : Read ℕ) → kind_of (release_complete r) ≢ 0x4D
+complete_kind elem.Absent e = omega arith
+complete_kind elem.Unreadable e = omega arith
+complete_kind (elem.Readable n) e = omega arith
 
-release_kind : (q : State) (r : CauseRead) → kind_of (release_reply q r) ≢ 0x4D
+release_kind : (q : State) (r : Read ℕ) → kind_of (release_reply q r) ≢ 0x4D
 release_kind N3 r = complete_kind r
 release_kind (N6 d) r = complete_kind r
 release_kind (N9 d) r = complete_kind r

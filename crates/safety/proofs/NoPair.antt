@@ -12,6 +12,7 @@ use native.Mathlib.Omega.{arith}
 use lib.Dec.{eqb, ltb}
 use lib.ListN.{length, get_or}
 use borrow.Author.Tests.{eqb-true, eqb-false, ne_eqb, eq-eqb, ltb-false, le-ltb}
+use Rattle.std.specs.Prelude.{Ok, Err}
 use Rattle.channels.specs.declared.Named.{Named}
 use Rattle.channels.proofs.Cases.{by_test, clash}
 use Rattle.channels.proofs.Some.{some_at}
@@ -20,13 +21,12 @@ use Rattle.first.specs.First.{place}
 use Rattle.first.proofs.First.{placed}
 use Rattle.header.specs.declared.Header.{Header}
 use Rattle.header.specs.Header.{header_in, head_of}
-use Rattle.elements.specs.declared.ConnectionRead.{ConnectionRead}
-use Rattle.elements.specs.declared.RestartRead.{RestartRead}
+use Rattle.elements.specs.declared.Read.{Read}
+use Rattle.channels.specs.declared.Pair.{Pair}
 use Rattle.replies.specs.declared.Diagnostic.{Diagnostic}
 use Rattle.replies.specs.declared.Reply.{Reply}
 use Rattle.replies.specs.declared.Reply.TheVariants as reply
 use Rattle.replies.specs.declared.Outgoing.TheVariants as outgoing
-use Rattle.setup.specs.declared.Admission.TheVariants.{Admitted, Refused}
 use Rattle.setup.specs.Setup.{admission}
 use Rattle.verdicts.specs.Verdict.{because}
 use Rattle.service.specs.Service.{global_number}
@@ -88,7 +88,7 @@ head_checks m h e =
     not_head z = let w : ◌≡◌ {A = ℕ} 0 1 = cc in absurd (omega arith)
 
 setup_wants : (t : Table) (e : Event) (m : List ℕ) (h : Header) (i : ℕ) → refusal_of t e ≡ 0 → view.IsMessage m h e → view.IsSetup t m h e
-    → admission m 9 ≡ Admitted → place is_empty t.slots.all ≡ Some i → free_pair t ≡ None → WantsPair t e
+    → admission m 9 ≡ Ok tt → place is_empty t.slots.all ≡ Some i → free_pair t ≡ None → WantsPair t e
 setup_wants t e m h i zero (view.heard label reading room head) is admitted found none =
     let setup : view.IsSetup t m (header_in m) e = rw (← head_is m h head) at is in
     let checks = head_checks m h head in
@@ -111,14 +111,14 @@ setup_wants t e m h i zero (view.heard label reading room head) is admitted foun
 
 -- Everything that an event can decide.
 
-declined_not_45 : (c : ConnectionRead) (n : ℕ) (d : Diagnostic) → view.Declined c n d → Not45 (reply.Status 0 (because n d))
+declined_not_45 : (c : Read Pair) (n : ℕ) (d : Diagnostic) → view.Declined c n d → Not45 (reply.Status 0 (because n d))
 declined_not_45 c n d view.no_class = refl
 declined_not_45 c n d view.bad_class = refl
 declined_not_45 c n d view.no_pair_lem = refl
 declined_not_45 c n d view.bad_pair = refl
 declined_not_45 c n d (view.barred p v e) = refl
 
-acted_not_45 : (t : Table) (r : RestartRead) (c : ConnectionRead) (which : Named) (a : Reply) → view.Names t r c which a → Not45 a
+acted_not_45 : (t : Table) (r : Read ℕ) (c : Read Pair) (which : Named) (a : Reply) → view.Names t r c which a → Not45 a
 acted_not_45 t r c which a (view.all k e y) = refl
 acted_not_45 t r c which a (view.one k p v e n f known fair) = refl
 
@@ -127,7 +127,7 @@ does_wants : (t : Table) (e : Event) → (view.IsTick e → Sound t) → refusal
 does_wants t e sound zero x view.nothing s = clash s refl
 does_wants t e sound zero x (view.no_call m h is) s = clash s (no_call_not_45 m h)
 does_wants t e sound zero x (view.global m h is) s = clash s (global_not_45 (global_number t.global.state) h)
-does_wants t e sound zero x (view.refuses m h c is a) s = let not : AdmissionNot45 (Refused c) = rw a at (admission_not_45 m 9) in clash s not
+does_wants t e sound zero x (view.refuses m h c is a) s = let not : AdmissionNot45 (Err c) = rw a at (admission_not_45 m 9) in clash s not
 does_wants t e sound zero x (view.no_slot_lem m h is a f) s = clash s refl
 does_wants t e sound zero x (view.no_free m h i is a f g) s = setup_wants t e m h i zero is.its_message is a f g
 does_wants t e sound zero x (view.admits m h i p v is a f g) s = clash s refl

@@ -33,11 +33,10 @@ use Rattle.slots.proofs.Each.{some_set}
 use Rattle.slots.specs.Timers.{some_due, earlier, considered, soonest_from, soonest}
 use Rattle.header.specs.declared.Header.{Header}
 use Rattle.header.specs.Header.{header_in, head_of}
-use Rattle.elements.specs.declared.ConnectionRead.{ConnectionRead}
-use Rattle.elements.specs.declared.ConnectionRead.TheVariants as connection_read
-use Rattle.elements.specs.declared.RestartRead.{RestartRead}
-use Rattle.elements.specs.declared.RestartRead.TheVariants as restart_read
-use Rattle.elements.specs.Values.{connection_in, restart_in}
+use Rattle.elements.specs.declared.Read.{Read}
+use Rattle.channels.specs.declared.Pair.{Pair}
+use Rattle.elements.specs.declared.Read.TheVariants as elem
+use Rattle.elements.specs.Values.{connection_in, restart_in, pair_read}
 use Rattle.replies.specs.declared.Diagnostic.{Diagnostic}
 use Rattle.replies.specs.declared.Diagnostic.TheVariants as diagnostic
 use Rattle.replies.specs.declared.Reply.{Reply}
@@ -84,14 +83,14 @@ use Rattle.safety.proofs.Marks.{Narrow, out_in_lem, single_in, all_stays, emptie
 -- "those of slots are later": by one slot more
 sooner_one : (b : Option Timer) (n x d : ℕ) → sooner (earlier b n x) d ≡ (sooner b d && not (leb x d))
 sooner_one None n x d = by_test (leb x d) (λ y. rw (y, le-ltb d x (leb-true x d y))) (λ n. rw (n, lt-ltb d x (leb-false x d n)))
-sooner_one (Some t) n x d =
-    by_test (ltb x t.deadline)
-    (λ y. let k = ltb-true x t.deadline y in rw y (by_test (leb x d)
-    (λ t.another. rw (t.another, le-ltb d x (leb-true x d t.another)) (sym (and-false (ltb d t.deadline))))
-    (λ t.another. let l = leb-false x d t.another in rw (t.another, lt-ltb d x l, lt-ltb d t.deadline (omega arith)))))
-    (λ y. let k = ltb-false x t.deadline y in rw y (by_test (leb x d)
-    (λ t.another. let l = leb-true x d t.another in rw (t.another, le-ltb d t.deadline (omega arith)))
-    (λ t.another. rw t.another (by_test (ltb d t.deadline) (λ z. rw z) (λ z. rw z)))))
+sooner_one (Some next) n x d =
+    by_test (ltb x next.deadline)
+    (λ y. let k = ltb-true x next.deadline y in rw y (by_test (leb x d)
+    (λ z. rw (z, le-ltb d x (leb-true x d z)) (sym (and-false (ltb d next.deadline))))
+    (λ z. let l = leb-false x d z in rw (z, lt-ltb d x l, lt-ltb d next.deadline (omega arith)))))
+    (λ y. let k = ltb-false x next.deadline y in rw y (by_test (leb x d)
+    (λ z. let l = leb-true x d z in rw (z, le-ltb d next.deadline (omega arith)))
+    (λ z. rw z (by_test (ltb d next.deadline) (λ w. rw w) (λ w. rw w)))))
 
 sooner-considered : (reading : ℕ) (b : Option Timer) (n : ℕ) (s : Slot) (d : ℕ) → d ≤ reading
     → (x : Option ℕ) → deadline_of s ≡ x → sooner (considered reading b n x) d ≡ (sooner b d && not (is_due d s))
@@ -172,7 +171,7 @@ module _ (t : Table) (reading : ℕ) (more : Bool) where
     where
       sent : (which : Named) → reply_octets false 0 (restart_of which) ≡ restart_octets which
       sent All = refl
-      sent (One (pair p v)) = refl
+      sent (One c) = refl
 
   ends : (which : Named) (why : Ending) → (global_ended why t.global).state ≡ Null → Ends t (sending t reading (ending which why) more []) which
   ends which why null = record {
@@ -202,15 +201,15 @@ same_is : (m : List ℕ) (which : Named) → Same m which → ((header_in m).who
 same_is m which (all whole r) = (whole, rw r)
 same_is m which (one p v whole r c) = (whole, rw (r, c, eq-eqb p p refl, eq-eqb v v refl))
 
-is_class_lem : (class : ℕ) (r : RestartRead) → is_class class r ≡ true → r ≡ restart_read.Class class
-is_class_lem class restart_read.Absent y = clash y refl
-is_class_lem class restart_read.Unreadable y = clash y refl
-is_class_lem class (restart_read.Class k) y = ap restart_read.Class (eqb-true k class y)
+is_class_lem : (class : ℕ) (r : Read ℕ) → is_class class r ≡ true → r ≡ elem.Readable class
+is_class_lem class elem.Absent y = clash y refl
+is_class_lem class elem.Unreadable y = clash y refl
+is_class_lem class (elem.Readable k) y = ap elem.Readable (eqb-true k class y)
 
-is_connection_lem : (p v : ℕ) (c : ConnectionRead) → is_connection p v c ≡ true → c ≡ connection_read.Pair p v
-is_connection_lem p v connection_read.Absent y = clash y refl
-is_connection_lem p v connection_read.Unreadable y = clash y refl
-is_connection_lem p v (connection_read.Pair q w) y = let b = both (eqb q p) (eqb w v) y in rw (eqb-true q p b.0, eqb-true w v b.1)
+is_connection_lem : (p v : ℕ) (c : Read Pair) → is_connection p v c ≡ true → c ≡ pair_read p v
+is_connection_lem p v elem.Absent y = clash y refl
+is_connection_lem p v elem.Unreadable y = clash y refl
+is_connection_lem p v (elem.Readable c) y = let b = both (eqb c.vpci p) (eqb c.vci v) y in rw (sym (eqb-true c.vpci p b.0), sym (eqb-true c.vci v b.1))
 
 is_same_lem : (m : List ℕ) (which : Named) → (header_in m).whole ≡ true → is_same which (restart_in m 9) (connection_in m 9) ≡ true → Same m which
 is_same_lem m All whole y = all whole (is_class_lem 0x82 (restart_in m 9) y)
@@ -344,20 +343,20 @@ module _ (t : Table) (m : List ℕ) (h : Header) where
   status_own : (n : ℕ) (d : Diagnostic) → ShowsOwn (restart_status (global_number t.global.state) n d)
   status_own n d k = shows_number t.global.state
 
-  pair_own : (c : ConnectionRead) → ShowsOwn (pair_restart (global_number t.global.state) t.pool c)
-  pair_own connection_read.Absent = status_own 96 (diagnostic.Octet 0x5A)
-  pair_own connection_read.Unreadable = status_own 100 (diagnostic.Octet 0x5A)
-  pair_own (connection_read.Pair p v) =
-      by_cond ShowsOwn (known_vpci t.pool p) _ _
-      (by_cond ShowsOwn (ltb v 32 || permanent t.pool p v) _ _ (status_own 82 (diagnostic.Pair p v)) (λ k. absurd (omega arith)))
+  pair_own : (c : Read Pair) → ShowsOwn (pair_restart (global_number t.global.state) t.pool c)
+  pair_own elem.Absent = status_own 96 (diagnostic.Octet 0x5A)
+  pair_own elem.Unreadable = status_own 100 (diagnostic.Octet 0x5A)
+  pair_own (elem.Readable c) =
+      by_cond ShowsOwn (known_vpci t.pool c.vpci) _ _
+      (by_cond ShowsOwn (ltb c.vci 32 || permanent t.pool c.vpci c.vci) _ _ (status_own 82 (diagnostic.Pair c.vpci c.vci)) (λ k. absurd (omega arith)))
       (status_own 100 (diagnostic.Octet 0x5A))
 
-  restart_own : (r : RestartRead) (c : ConnectionRead) → ShowsOwn (restart_effect (global_number t.global.state) t.pool r c)
-  restart_own restart_read.Absent c = status_own 96 (diagnostic.Octet 0x79)
-  restart_own restart_read.Unreadable c = status_own 100 (diagnostic.Octet 0x79)
-  restart_own (restart_read.Class k) c = by_cond ShowsOwn (eqb k 0x82) _ _ (λ z. absurd (omega arith)) (pair_own c)
+  restart_own : (r : Read ℕ) (c : Read Pair) → ShowsOwn (restart_effect (global_number t.global.state) t.pool r c)
+  restart_own elem.Absent c = status_own 96 (diagnostic.Octet 0x79)
+  restart_own elem.Unreadable c = status_own 100 (diagnostic.Octet 0x79)
+  restart_own (elem.Readable k) c = by_cond ShowsOwn (eqb k 0x82) _ _ (λ z. absurd (omega arith)) (pair_own c)
 
-  acknowledge_own : (g : GlobalState) (r : RestartRead) (c : ConnectionRead) → ShowsOwn (acknowledge_effect g r c)
+  acknowledge_own : (g : GlobalState) (r : Read ℕ) (c : Read Pair) → ShowsOwn (acknowledge_effect g r c)
   acknowledge_own Null r c = λ z. absurd (omega arith)
   acknowledge_own (RestartRequest which second d) r c = by_cond ShowsOwn (is_same which r c) _ _ (λ z. absurd (omega arith)) (λ z. absurd (omega arith))
 

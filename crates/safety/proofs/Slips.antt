@@ -29,8 +29,8 @@ use Rattle.first.specs.First.{place}
 use Rattle.slots.specs.Slots.{hold_at}
 use Rattle.header.specs.declared.Header.{Header}
 use Rattle.header.specs.Header.{header_in, head_of}
-use Rattle.elements.specs.declared.CallStateRead.{CallStateRead}
-use Rattle.elements.specs.declared.CallStateRead.TheVariants as call_state_read
+use Rattle.elements.specs.declared.Read.{Read}
+use Rattle.elements.specs.declared.Read.TheVariants as elem
 use Rattle.elements.specs.Values.{call_state_in}
 use Rattle.replies.specs.declared.Reply.{Reply}
 use Rattle.replies.specs.declared.Reply.TheVariants as reply
@@ -151,15 +151,15 @@ NotStatus a = kind_of a ≢ 0x7D
 none_not_status : NotStatus reply.None
 none_not_status e = omega arith
 
-verdict_not_status : (r : CallStateRead) → NotStatus (status_verdict r).reply
-verdict_not_status call_state_read.Absent = none_not_status
-verdict_not_status call_state_read.Unreadable = none_not_status
-verdict_not_status (call_state_read.Value s) = by_cond (λ (v : Verdict). NotStatus v.reply) (eqb s 0) _ silent none_not_status none_not_status
+verdict_not_status : (r : Read ℕ) → NotStatus (status_verdict r).reply
+verdict_not_status elem.Absent = none_not_status
+verdict_not_status elem.Unreadable = none_not_status
+verdict_not_status (elem.Readable s) = by_cond (λ (v : Verdict). NotStatus v.reply) (eqb s 0) _ silent none_not_status none_not_status
 
-reply_not_status : (r : CallStateRead) → NotStatus (status_reply r)
-reply_not_status call_state_read.Absent = none_not_status
-reply_not_status call_state_read.Unreadable = none_not_status
-reply_not_status (call_state_read.Value s) = by_cond NotStatus (eqb s 0) reply.None _ none_not_status (λ e. omega arith)
+reply_not_status : (r : Read ℕ) → NotStatus (status_reply r)
+reply_not_status elem.Absent = none_not_status
+reply_not_status elem.Unreadable = none_not_status
+reply_not_status (elem.Readable s) = by_cond NotStatus (eqb s 0) reply.None _ none_not_status (λ e. omega arith)
 
 -- replies to a STATUS: on a live call, on no call, on the global reference
 module _ (m : List ℕ) (h : Header) (status : h.kind ≡ 0x7D) where

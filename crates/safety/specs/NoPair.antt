@@ -7,7 +7,7 @@
 --   NoPairExactly      the demand, of a message on any table
 --   SentExactly        the demand, of every event on a table that is reached
 -- Assumes nothing.
-use Rattle.std.specs.Prelude.{ℕ, ◌≤◌, ◌<◌, ◌≡◌, ◌≢◌, Bool, true, false, List, length, get_or}
+use Rattle.std.specs.Prelude.{ℕ, ◌≤◌, ◌<◌, ◌≡◌, ◌≢◌, Bool, true, false, List, length, get_or, Ok}
 use Rattle.calls.specs.declared.State.{State}
 use Rattle.calls.specs.declared.Call.{Call}
 use Rattle.calls.specs.Calls.{no_slot}
@@ -16,7 +16,6 @@ use Rattle.replies.specs.declared.Reply.{Reply}
 use Rattle.replies.specs.declared.Reply.TheVariants.{ReleaseCompleteWith}
 use Rattle.replies.specs.declared.Outgoing.TheVariants as outgoing
 use Rattle.replies.specs.Reply.{reply_octets}
-use Rattle.setup.specs.declared.Admission.TheVariants.{Admitted}
 use Rattle.setup.specs.Setup.{admission}
 use Rattle.verdicts.specs.Verdict.{plain_cause}
 use Rattle.table.specs.declared.Table.{Table}
@@ -43,7 +42,7 @@ pub record PassedAllChecks (t : Table) (label reading room : ℕ) (m : List ℕ)
   -- "5. Length field not equal to the octets after octet 9: ignored (house)."
   pub whole : (header_in m).whole ≡ true
   -- "6. Contents.": not 96, 100, 65 or 73
-  pub elements : admission m 9 ≡ Admitted
+  pub elements : admission m 9 ≡ Ok tt
   -- not "47 no empty slot"
   pub empty_slot : (i : ℕ) × ((i < length t.slots.all) × (slot_at t i ≡ no_slot))
 

@@ -23,9 +23,8 @@ use Rattle.calls.specs.Timers.{state_due, due_by}
 use Rattle.slots.specs.Slots.{slot_count}
 use Rattle.slots.specs.Timers.{some_due}
 use Rattle.header.specs.Header.{header_in, head_of}
-use Rattle.elements.specs.declared.ConnectionRead.TheVariants as connection_read
-use Rattle.elements.specs.declared.RestartRead.TheVariants as restart_read
-use Rattle.elements.specs.Values.{connection_in, restart_in}
+use Rattle.elements.specs.declared.Read.TheVariants as elem
+use Rattle.elements.specs.Values.{connection_in, restart_in, pair_read}
 use Rattle.octets.specs.Octets.{high, low}
 use Rattle.service.specs.declared.GlobalState.TheVariants.{Null, RestartRequest}
 use Rattle.service.specs.Service.{t316, global_due, is_waiting, none_out, is_out, has_room}
@@ -127,8 +126,8 @@ pub record IsAcknowledge (m : List ℕ) : Type 0 where
 
 -- "RESTART ACKNOWLEDGE with flag 1 then goes on to step 5. One with 79, and for one pair 5A, readable and the same"
 pub data Same (m : List ℕ) : Named → Type 0 where
-  all : (header_in m).whole ≡ true → restart_in m 9 ≡ restart_read.Class 0x82 → Same m All
-  one : (p v : ℕ) → (header_in m).whole ≡ true → restart_in m 9 ≡ restart_read.Class 0x80 → connection_in m 9 ≡ connection_read.Pair p v → Same m (One (pair p v))
+  all : (header_in m).whole ≡ true → restart_in m 9 ≡ elem.Readable 0x82 → Same m All
+  one : (p v : ℕ) → (header_in m).whole ≡ true → restart_in m 9 ≡ elem.Readable 0x80 → connection_in m 9 ≡ pair_read p v → Same m (One (pair p v))
 
 -- "Due: reading at least the deadline."; "In a tick T316 comes after slots of equal deadline.": those of slots are later
 pub record T316Next (t : Table) (reading deadline : ℕ) : Type 0 where

@@ -1,4 +1,3 @@
 pub mod Digits
 pub mod Decoding
-pub mod Cut
 pub mod Numbers

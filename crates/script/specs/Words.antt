@@ -3,25 +3,23 @@
 --   end_at, word_at               the word from a place up to the next blank or the line's end
 --   command_of, word_of           the word that a line begins with
 --   which_of                     what `restart` names
---   field_at                     the number behind a blank
+--   field_at, on_field            the number behind a blank, and what is made of it
+--   ended                        a value, if the line is at its end
 -- Assumes nothing.
-use Rattle.std.specs.Prelude.{ℕ, suc, ◌+◌, cond, List, [], ◌∷◌, eqb, ltb, length, drop}
-use Rattle.octets.specs.Octets.{part, equal}
-use Rattle.script.specs.declared.decimal.Number.{Number}
-use Rattle.script.specs.declared.decimal.Number.TheVariants as number
-use Rattle.script.specs.declared.words.Field.{Field}
-use Rattle.script.specs.declared.words.Field.TheVariants as field
+use Rattle.std.specs.Prelude.{ℕ, ◌+◌, cond, List, eqb, ltb, length, drop, codes, Option, Some, None}
+use Rattle.std.specs.List.{position_or_len}
+use Rattle.std.specs.Str.{bytes_eq}
+use Rattle.octets.specs.Octets.{part}
 use Rattle.script.specs.declared.words.Word.{Word}
-use Rattle.script.specs.declared.words.Word.TheVariants.{Unknown, Start, Event, Save, Reload}
+use Rattle.script.specs.declared.words.Word.TheVariants.{Start, Event, Save, Reload}
 use Rattle.script.specs.declared.words.Kind.TheVariants.{Message, Tick, Connect, Clear, Offer, Restart, PutBack}
 use Rattle.script.specs.declared.words.Which.{Which}
-use Rattle.script.specs.declared.words.Which.TheVariants as which
+use Rattle.script.specs.declared.words.Which.TheVariants.{All, One}
 use Rattle.script.specs.Decimal.{number_of}
 
 -- how many octets stand before the first such octet
 abbrev pub count_to : ℕ → List ℕ → ℕ
-count_to octet [] = 0
-count_to octet (o ∷ s) = cond (eqb o octet) 0 (suc (count_to octet s))
+count_to octet s = position_or_len (λ o. eqb o octet) s
 
 -- the place of the first such octet from a place on, or the line's end
 abbrev pub place_of : ℕ → List ℕ → ℕ → ℕ
@@ -34,38 +32,40 @@ end_at line at = place_of 32 line at
 abbrev pub word_at : List ℕ → ℕ → List ℕ
 word_at line at = part line at (end_at line at)
 
--- `restart` and `putback`, in ASCII
-abbrev pub command_of : List ℕ → Word
+abbrev pub command_of : List ℕ → Option Word
 command_of w =
-    cond (equal w (114 ∷ 101 ∷ 115 ∷ 116 ∷ 97 ∷ 114 ∷ 116 ∷ [])) (Event Restart)
-    (cond (equal w (112 ∷ 117 ∷ 116 ∷ 98 ∷ 97 ∷ 99 ∷ 107 ∷ [])) (Event PutBack) Unknown)
+    cond (bytes_eq w (codes "restart")) (Some (Event Restart))
+    (cond (bytes_eq w (codes "putback")) (Some (Event PutBack)) None)
 
--- `message`, `tick`, `connect`, `clear`, `offer`, `start`, `save` and `reload`, in ASCII, or a command
-abbrev pub word_of : List ℕ → Word
+-- the word of an event, `start`, `save` or `reload`, or a command
+abbrev pub word_of : List ℕ → Option Word
 word_of w =
-    cond (equal w (109 ∷ 101 ∷ 115 ∷ 115 ∷ 97 ∷ 103 ∷ 101 ∷ [])) (Event Message)
-    (cond (equal w (116 ∷ 105 ∷ 99 ∷ 107 ∷ [])) (Event Tick)
-    (cond (equal w (99 ∷ 111 ∷ 110 ∷ 110 ∷ 101 ∷ 99 ∷ 116 ∷ [])) (Event Connect)
-    (cond (equal w (99 ∷ 108 ∷ 101 ∷ 97 ∷ 114 ∷ [])) (Event Clear)
-    (cond (equal w (111 ∷ 102 ∷ 102 ∷ 101 ∷ 114 ∷ [])) (Event Offer)
-    (cond (equal w (115 ∷ 116 ∷ 97 ∷ 114 ∷ 116 ∷ [])) Start
-    (cond (equal w (115 ∷ 97 ∷ 118 ∷ 101 ∷ [])) Save
-    (cond (equal w (114 ∷ 101 ∷ 108 ∷ 111 ∷ 97 ∷ 100 ∷ [])) Reload (command_of w))))))))
+    cond (bytes_eq w (codes "message")) (Some (Event Message))
+    (cond (bytes_eq w (codes "tick")) (Some (Event Tick))
+    (cond (bytes_eq w (codes "connect")) (Some (Event Connect))
+    (cond (bytes_eq w (codes "clear")) (Some (Event Clear))
+    (cond (bytes_eq w (codes "offer")) (Some (Event Offer))
+    (cond (bytes_eq w (codes "start")) (Some Start)
+    (cond (bytes_eq w (codes "save")) (Some Save)
+    (cond (bytes_eq w (codes "reload")) (Some Reload) (command_of w))))))))
 
--- `all` and `one`, in ASCII
-abbrev pub which_of : List ℕ → Which
-which_of w = cond (equal w (97 ∷ 108 ∷ 108 ∷ [])) which.All (cond (equal w (111 ∷ 110 ∷ 101 ∷ [])) which.One which.Unknown)
+abbrev pub which_of : List ℕ → Option Which
+which_of w = cond (bytes_eq w (codes "all")) (Some All) (cond (bytes_eq w (codes "one")) (Some One) None)
 
--- what is made of a field, by its two cases
-abbrev pub on_field : {A : Type 0} → Field → A → (ℕ → ℕ → A) → A
-on_field field.Bad bad good = bad
-on_field (field.Is n end) bad good = good n end
+-- what is made of a number and the place behind it, if there is one
+abbrev pub on_field : {A : Type 0} → Option (ℕ × ℕ) → (ℕ → ℕ → Option A) → Option A
+on_field None made = None
+on_field (Some f) made = made f.0 f.1
 
 -- a number with the place behind it
-abbrev pub placed : Number → ℕ → Field
-placed number.Bad end = field.Bad
-placed (number.Is n) end = field.Is n end
+abbrev pub placed : Option ℕ → ℕ → Option (ℕ × ℕ)
+placed None end = None
+placed (Some n) end = Some (n, end)
 
 -- the number behind the blank at a place; at the line's end there is none
-abbrev pub field_at : List ℕ → ℕ → Field
-field_at line at = cond (ltb at (length line)) (placed (number_of (word_at line (at + 1))) (end_at line (at + 1))) field.Bad
+abbrev pub field_at : List ℕ → ℕ → Option (ℕ × ℕ)
+field_at line at = cond (ltb at (length line)) (placed (number_of (word_at line (at + 1))) (end_at line (at + 1))) None
+
+-- the value, if the line is at its end
+abbrev pub ended : {A : Type 0} → List ℕ → ℕ → A → Option A
+ended l at value = cond (ltb at (length l)) None (Some value)

@@ -1,95 +1,52 @@
 // Octets in hex.
-ghost use Rattle.std.specs.Prelude.{◌≡◌, ◌*◌, ◌≤◌, length};
+ghost use Rattle.std.specs.Prelude.{◌≡◌, ◌*◌, ◌≤◌, ◌<◌, length, IfSome};
 ghost use Rattle.octets.specs.Octets.{front};
-ghost use Rattle.script.specs.Hex.{hex_digit, hex_pair, hex_octets, decoded, octets_read, octets_stored, Fits};
+ghost use Rattle.script.specs.Hex.{hex_digit, hex_pair, hex_octets, decoded, octets_read, octets_stored};
 
-// How many octets were read, or none.
-#[derive(Clone, Copy)]
-pub enum Octets {
-    Bad,
-    Are(usize),
-}
-
-// The value of a hex digit of either case; 16 for any other octet.
-fn hex_digit(octet: u8) -> u8
+// The value of a hex digit of either case.
+fn hex_digit(octet: u8) -> Option<u8>
     ensures value { result ≡ hex_digit octet }
-    ensures small { result ≤ 16 }
+    ensures small { IfSome result (λ d. d < 16) }
 {
-    if octet < 48 {
-        return 16;
+    match octet {
+        b'0'..=b'9' => Some(octet - b'0'),
+        b'A'..=b'F' => Some(octet - b'A' + 10),
+        b'a'..=b'f' => Some(octet - b'a' + 10),
+        _ => None,
     }
-    if octet <= 57 {
-        return octet - 48;
-    }
-    if octet < 65 {
-        return 16;
-    }
-    if octet <= 70 {
-        return octet - 55;
-    }
-    if octet < 97 {
-        return 16;
-    }
-    if octet <= 102 {
-        return octet - 87;
-    }
-    16
 }
 
-// The octet of two hex digits; 256 if one is none.
-fn hex_pair(high: u8, low: u8) -> u16
+// The octet of two hex digits.
+fn hex_pair(high: u8, low: u8) -> Option<u8>
     ensures { result ≡ hex_pair high low }
 {
-    let h = hex_digit(high) as u16;
-    let l = hex_digit(low) as u16;
-    if 15 < h {
-        return 256;
-    }
-    if 15 < l {
-        return 256;
-    }
-    h * 16 + l
+    Some(hex_digit(high)? * 16 + hex_digit(low)?)
 }
 
 // Reads n octets to the front of the room, up to the first that is none.
-fn decode(word: &[u8], room: &mut [u8], n: usize) -> Octets
+fn decode(word: &[u8], room: &mut [u8], n: usize) -> Option<usize>
     requires { (2 * n ≤ length word.now) × (n ≤ length room.old) }
     ensures value { (result ≡ decoded n word.now) × (room.new ≡ front (hex_octets n word.now) room.old) }
-    ensures within { Fits result n }
+    ensures within { IfSome result (λ k. k ≤ n) }
 {
-    let mut i: usize = 0;
-    while i < n {
-        let octet = hex_pair(word[2 * i], word[2 * i + 1]);
-        if 255 < octet {
-            return Octets::Bad;
-        }
-        room[i] = octet as u8;
-        i += 1;
+    for i in 0..n {
+        room[i] = hex_pair(word[2 * i], word[2 * i + 1])?;
     }
-    Octets::Are(n)
+    Some(n)
 }
 
-// The octets that a word says: `-` is none of them.
-pub fn read_octets(word: &[u8], room: &mut [u8]) -> Octets
+// How many octets a word says, which go to the front of the room: `-` is none of them.
+pub fn read_octets(word: &[u8], room: &mut [u8]) -> Option<usize>
     ensures value { (result ≡ octets_read (length room.old) word.now)
         × (room.new ≡ front (octets_stored (length room.old) word.now) room.old) }
-    ensures within { Fits result (length room.old) }
+    ensures within { IfSome result (λ n. n ≤ length room.old) }
 {
-    if word.len() == 0 {
-        return Octets::Bad;
-    }
-    if word.len() == 1 {
-        if word[0] == b'-' {
-            return Octets::Are(0);
-        }
-        return Octets::Bad;
-    }
-    if word.len() % 2 == 1 {
-        return Octets::Bad;
+    if word == b"-".as_slice() {
+        return Some(0);
     }
     let n = word.len() / 2;
-    if room.len() < n {
-        return Octets::Bad;
+    if word.is_empty() || word.len() % 2 == 1 || room.len() < n {
+        return None;
     }
     decode(word, room, n)
 }

@@ -1,14 +1,12 @@
 // The words of a line, separated by one blank.
 ghost use Rattle.std.specs.Prelude.{◌≡◌, ◌≤◌, length};
-ghost use Rattle.script.specs.Words.{place_of, command_of, word_of, which_of, field_at};
+ghost use Rattle.script.specs.Words.{count_to, place_of, word_of, which_of, field_at, ended};
 
 use crate::decimal;
-use crate::decimal::Number;
 
 // The word that a line begins with.
 #[derive(Clone, Copy)]
 pub enum Word {
-    Unknown,
     Start,
     Event(Kind),
     Save,
@@ -30,16 +28,8 @@ pub enum Kind {
 // What `restart` names.
 #[derive(Clone, Copy)]
 pub enum Which {
-    Unknown,
     All,
     One,
-}
-
-// A number and the place behind it, or none.
-#[derive(Clone, Copy)]
-pub enum Field {
-    Bad,
-    Is(u64, usize),
 }
 
 // The place of the first such octet from place `at` on, or the line's end.
@@ -47,82 +37,62 @@ pub fn place_of(octet: u8, line: &[u8], at: usize) -> usize
     ensures value { result ≡ place_of octet line.now at }
     ensures within { (at ≤ result) × (at ≤ length line.now → result ≤ length line.now) }
 {
-    let mut i = at;
-    while i < line.len() {
-        if line[i] == octet {
-            return i;
-        }
-        i += 1;
+    match line.get(at..) {
+        Some(rest) => at + count_to(octet, rest),
+        None => at,
     }
-    i
 }
 
-// The number behind the blank at place `at`.
-pub fn read_field(line: &[u8], at: usize) -> Field
+// How many octets stand before the first such octet.
+fn count_to(octet: u8, s: &[u8]) -> usize
+    ensures value { result ≡ count_to octet s.now }
+    ensures within { result ≤ length s.now }
+{
+    s.iter().position(|o| *o == octet).unwrap_or(s.len())
+}
+
+// The number behind the blank at place `at`, and the place behind it.
+pub fn read_field(line: &[u8], at: usize) -> Option<(u64, usize)>
     ensures { result ≡ field_at line.now at }
 {
     if line.len() <= at {
-        return Field::Bad;
+        return None;
     }
-    let from = at + 1;
-    let to = place_of(b' ', line, from);
-    match decimal::read_number(&line[from..to]) {
-        Number::Bad => Field::Bad,
-        Number::Is(value) => Field::Is(value, to),
-    }
+    let end = place_of(b' ', line, at + 1);
+    Some((decimal::read_number(&line[at + 1..end])?, end))
 }
 
-pub fn read_word(w: &[u8]) -> Word
+pub fn read_word(w: &[u8]) -> Option<Word>
     ensures { result ≡ word_of w.now }
 {
-    if octets::same(w, b"message") {
-        return Word::Event(Kind::Message);
+    match w {
+        b"message" => Some(Word::Event(Kind::Message)),
+        b"tick" => Some(Word::Event(Kind::Tick)),
+        b"connect" => Some(Word::Event(Kind::Connect)),
+        b"clear" => Some(Word::Event(Kind::Clear)),
+        b"offer" => Some(Word::Event(Kind::Offer)),
+        b"start" => Some(Word::Start),
+        b"save" => Some(Word::Save),
+        b"reload" => Some(Word::Reload),
+        b"restart" => Some(Word::Event(Kind::Restart)),
+        b"putback" => Some(Word::Event(Kind::PutBack)),
+        _ => None,
     }
-    if octets::same(w, b"tick") {
-        return Word::Event(Kind::Tick);
-    }
-    if octets::same(w, b"connect") {
-        return Word::Event(Kind::Connect);
-    }
-    if octets::same(w, b"clear") {
-        return Word::Event(Kind::Clear);
-    }
-    if octets::same(w, b"offer") {
-        return Word::Event(Kind::Offer);
-    }
-    if octets::same(w, b"start") {
-        return Word::Start;
-    }
-    if octets::same(w, b"save") {
-        return Word::Save;
-    }
-    if octets::same(w, b"reload") {
-        return Word::Reload;
-    }
-    read_command(w)
 }
 
-// The host's commands for channels.
-fn read_command(w: &[u8]) -> Word
-    ensures { result ≡ command_of w.now }
-{
-    if octets::same(w, b"restart") {
-        return Word::Event(Kind::Restart);
-    }
-    if octets::same(w, b"putback") {
-        return Word::Event(Kind::PutBack);
-    }
-    Word::Unknown
-}
-
-pub fn read_which(w: &[u8]) -> Which
+pub fn read_which(w: &[u8]) -> Option<Which>
     ensures { result ≡ which_of w.now }
 {
-    if octets::same(w, b"all") {
-        return Which::All;
+    match w {
+        b"all" => Some(Which::All),
+        b"one" => Some(Which::One),
+        _ => None,
     }
-    if octets::same(w, b"one") {
-        return Which::One;
-    }
-    Which::Unknown
+}
+
+// The value, if the line is at its end at place `at`.
+pub fn ended<T: Copy>(line: &[u8], at: usize, value: T) -> Option<T>
+    ensures { result ≡ ended line.now at value }
+{
+    if at < line.len() { None } else { Some(value) }
 }

@@ -15,7 +15,6 @@ ghost use Rattle.items.specs.Items.{items, first_of};
 ghost use Rattle.shown.specs.Calling.{calling_fits, address_at, allowed};
 ghost use Rattle.shown.specs.Shown.{passes, calling_in, extent_of, Inside, Within, shown_of, beginning};
 
-use header::Head;
 use items::Item;
 use octets::octet_at;
 
@@ -76,15 +75,7 @@ fn is_allowed(c: &[u8]) -> bool
 fn is_setup(m: &[u8]) -> bool
     ensures { result ≡ passes (head_of m.now) }
 {
-    match header::read(m) {
-        Head::Ignored => false,
-        Head::Is(h) => {
-            if h.whole {
-                return h.kind == 0x05;
-            }
-            false
-        }
-    }
+    header::read(m).is_some_and(|head| head.whole && head.kind == 0x05)
 }
 
 // The calling number element: the first 6C, `End` where there is none.

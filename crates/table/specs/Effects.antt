@@ -16,6 +16,7 @@
 -- Assumes nothing.
 use Rattle.std.specs.Prelude.{ℕ, Bool, true, false, not, cond, ◌&&◌, ◌||◌, List, map, eqb, ltb, set, Option, Some, None}
 use Rattle.channels.specs.declared.Pair.{Pair}
+use Rattle.std.specs.Prelude.{ℕ, Bool, true, false, not, cond, ◌&&◌, ◌||◌, List, map, eqb, ltb, set, Result, Ok, Err, ⊤}
 use Rattle.channels.specs.declared.Named.{Named}
 use Rattle.channels.specs.Channels.{pair, lowest}
 use Rattle.pairs.specs.Pairs.{is_full, with_pair, unless_named}
@@ -35,10 +36,9 @@ use Rattle.service.specs.Service.{global_number, global_due, is_waiting, none_ou
 use Rattle.search.specs.Search.{taken}
 use Rattle.header.specs.declared.Header.{Header}
 use Rattle.elements.specs.Values.{connection_in, restart_in}
+use Rattle.replies.specs.declared.Cause.{Cause}
 use Rattle.replies.specs.declared.Reply.TheVariants as reply
 use Rattle.replies.specs.declared.Outgoing.TheVariants as outgoing
-use Rattle.setup.specs.declared.Admission.{Admission}
-use Rattle.setup.specs.declared.Admission.TheVariants.{Admitted, Refused}
 use Rattle.setup.specs.Setup.{admission}
 use Rattle.verdicts.specs.Verdict.{plain_cause}
 use Rattle.verdicts.specs.Expiry.{expire}
@@ -129,9 +129,9 @@ abbrev pub admitted : Table → ℕ → Option ℕ → Effect
 admitted t r None = replying true r (reply.ReleaseCompleteWith (plain_cause 47))
 admitted t r (Some i) = on_pair r i (free_pair t)
 
-abbrev pub setup_effect : Table → ℕ → Admission → Effect
-setup_effect t r (Refused c) = replying true r (reply.ReleaseCompleteWith c)
-setup_effect t r Admitted = admitted t r (place is_empty t.slots.all)
+abbrev pub setup_effect : Table → ℕ → Result ⊤ Cause → Effect
+setup_effect t r (Err c) = replying true r (reply.ReleaseCompleteWith c)
+setup_effect t r (Ok u) = admitted t r (place is_empty t.slots.all)
 
 -- "SETUP with flag 1 ..: ignored. No such call: .."; step 5 for SETUP; "a reply on no call .. carries the other flag than received"
 abbrev pub on_no_call : Table → List ℕ → Header → Effect

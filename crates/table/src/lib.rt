@@ -28,7 +28,6 @@ use header::Header;
 use pairs::Pairs;
 use replies::{Cause, Outgoing, Reply};
 use service::{Global, GlobalState, OutOfService};
-use setup::Admission;
 use slots::{Flags, Slots, Timer};
 use verdicts::Notice;
 
@@ -283,8 +282,8 @@ impl Table {
         ensures { result ≡ setup_effect self reference (admission m.now 9) }
     {
         match setup::admit(m, 9) {
-            Admission::Admitted => self.set_up_admitted(reference),
-            Admission::Refused(why) => refuse_setup(reference, why),
+            Ok(()) => self.set_up_admitted(reference),
+            Err(why) => refuse_setup(reference, why),
         }
     }
 

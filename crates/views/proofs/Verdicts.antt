@@ -19,8 +19,8 @@ use Rattle.calls.specs.declared.State.{State}
 use Rattle.calls.specs.declared.State.TheVariants.{N3, N6, N9, N10, N12}
 use Rattle.calls.specs.Timers.{t310}
 use Rattle.header.specs.declared.Header.{Header}
-use Rattle.elements.specs.declared.CallStateRead.{CallStateRead}
-use Rattle.elements.specs.declared.CallStateRead.TheVariants as call_state_read
+use Rattle.elements.specs.declared.Read.{Read}
+use Rattle.elements.specs.declared.Read.TheVariants as elem
 use Rattle.elements.specs.Values.{cause_in, call_state_in}
 use Rattle.replies.specs.declared.Diagnostic.TheVariants as diagnostic
 use Rattle.replies.specs.declared.Reply.{Reply}
@@ -88,10 +88,10 @@ module _ (reading : ℕ) (m : List ℕ) (h : Header) where
   abbrev HeardAs : State → Class → Type 0
   HeardAs q c = HeardIn q (judged_as c m h q reading)
 
-  status_heard : (q : State) (r : CallStateRead) → HeardIn q (status_verdict r)
-  status_heard q call_state_read.Absent = says _ nothing
-  status_heard q call_state_read.Unreadable = says _ nothing
-  status_heard q (call_state_read.Value s) = by_cond (HeardIn q) (eqb s 0) _ silent at_once (says _ nothing)
+  status_heard : (q : State) (r : Read ℕ) → HeardIn q (status_verdict r)
+  status_heard q elem.Absent = says _ nothing
+  status_heard q elem.Unreadable = says _ nothing
+  status_heard q (elem.Readable s) = by_cond (HeardIn q) (eqb s 0) _ silent at_once (says _ nothing)
 
   expected : (q : State) (k : Kind) → HeardIn q (contents_verdict k m q reading) → HeardAs q (class.Expected k)
   expected q k j = by_cond (HeardIn q) h.whole (contents_verdict k m q reading) silent j (says _ nothing)

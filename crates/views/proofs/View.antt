@@ -15,6 +15,7 @@ use mathlib.Core.List.{List}
 use native.Mathlib.Omega.{arith}
 use lib.Dec.{eqb, ltb}
 use borrow.Author.Tests.{eqb-true, eqb-false, not-true}
+use Rattle.std.specs.Prelude.{Result, Ok, Err, ⊤}
 use Rattle.traffic.specs.Traffic.{member}
 use Rattle.channels.specs.declared.Pair.{Pair}
 use Rattle.channels.specs.declared.Named.{Named}
@@ -32,19 +33,15 @@ use Rattle.slots.specs.Slots.{hold_at, unused_reference}
 use Rattle.slots.specs.Timers.{soonest, next_due}
 use Rattle.header.specs.declared.Header.{Header}
 use Rattle.header.specs.Header.{head_of}
-use Rattle.elements.specs.declared.ConnectionRead.{ConnectionRead}
-use Rattle.elements.specs.declared.ConnectionRead.TheVariants as connection_read
-use Rattle.elements.specs.declared.RestartRead.{RestartRead}
-use Rattle.elements.specs.declared.RestartRead.TheVariants as restart_read
-use Rattle.elements.specs.Values.{connection_in, restart_in}
+use Rattle.elements.specs.declared.Read.{Read}
+use Rattle.elements.specs.declared.Read.TheVariants as elem
+use Rattle.elements.specs.Values.{connection_in, restart_in, pair_read}
 use Rattle.replies.specs.declared.Cause.{Cause}
 use Rattle.replies.specs.declared.Diagnostic.{Diagnostic}
 use Rattle.replies.specs.declared.Diagnostic.TheVariants as diagnostic
 use Rattle.replies.specs.declared.Reply.{Reply}
 use Rattle.replies.specs.declared.Reply.TheVariants as reply
 use Rattle.replies.specs.declared.Outgoing.TheVariants as outgoing
-use Rattle.setup.specs.declared.Admission.{Admission}
-use Rattle.setup.specs.declared.Admission.TheVariants.{Admitted, Refused}
 use Rattle.setup.specs.Setup.{admission}
 use Rattle.verdicts.specs.Verdict.{plain_cause}
 use Rattle.judging.specs.Judge.{judge, no_call_reply, global_reply}
@@ -116,17 +113,17 @@ pub record IsAcknowledge (m : List ℕ) (h : Header) (e : Event) : Type 0 where
   pub whole : h.whole ≡ true
 
 -- what a RESTART that is not acted on is answered
-pub data Declined (c : ConnectionRead) : ℕ → Diagnostic → Type 0 where
+pub data Declined (c : Read Pair) : ℕ → Diagnostic → Type 0 where
   no_class : Declined c 96 (diagnostic.Octet 0x79)
   bad_class : Declined c 100 (diagnostic.Octet 0x79)
   no_pair_lem : Declined c 96 (diagnostic.Octet 0x5A)
   bad_pair : Declined c 100 (diagnostic.Octet 0x5A)
-  barred : (p v : ℕ) → c ≡ connection_read.Pair p v → Declined c 82 (diagnostic.Pair p v)
+  barred : (p v : ℕ) → c ≡ pair_read p v → Declined c 82 (diagnostic.Pair p v)
 
 -- what a RESTART names, and what it is answered
-pub data Names (t : Table) (r : RestartRead) (c : ConnectionRead) : Named → Reply → Type 0 where
-  all : (k : ℕ) → r ≡ restart_read.Class k → eqb k 0x82 ≡ true → Names t r c named.All reply.RestartAcknowledgeAll
-  one : (k p v : ℕ) → r ≡ restart_read.Class k → eqb k 0x82 ≡ false → c ≡ connection_read.Pair p v → known_vpci t.pool p ≡ true
+pub data Names (t : Table) (r : Read ℕ) (c : Read Pair) : Named → Reply → Type 0 where
+  all : (k : ℕ) → r ≡ elem.Readable k → eqb k 0x82 ≡ true → Names t r c named.All reply.RestartAcknowledgeAll
+  one : (k p v : ℕ) → r ≡ elem.Readable k → eqb k 0x82 ≡ false → c ≡ pair_read p v → known_vpci t.pool p ≡ true
       → (ltb v 32 || permanent t.pool p v) ≡ false → Names t r c (named.One (pair p v)) (reply.RestartAcknowledge p v)
 
 -- a tick fires T316
@@ -144,13 +141,13 @@ pub data Does (t : Table) (e : Event) : Effect → Type 0 where
   no_call : (m : List ℕ) (h : Header) → IsMessage m h e → Does t e (replying (not h.flag) h.reference (no_call_reply m h))
   global : (m : List ℕ) (h : Header) → IsMessage m h e → Does t e (replying (not h.flag) 0 (global_reply (global_number t.global.state) h))
   -- a SETUP is refused: for its elements, for want of a slot, for want of a pair
-  refuses : (m : List ℕ) (h : Header) (c : Cause) → IsSetup t m h e → admission m 9 ≡ Refused c → Does t e (replying true h.reference (reply.ReleaseCompleteWith c))
-  no_slot_lem : (m : List ℕ) (h : Header) → IsSetup t m h e → admission m 9 ≡ Admitted → place is_empty t.slots.all ≡ None
+  refuses : (m : List ℕ) (h : Header) (c : Cause) → IsSetup t m h e → admission m 9 ≡ Err c → Does t e (replying true h.reference (reply.ReleaseCompleteWith c))
+  no_slot_lem : (m : List ℕ) (h : Header) → IsSetup t m h e → admission m 9 ≡ Ok tt → place is_empty t.slots.all ≡ None
       → Does t e (replying true h.reference (reply.ReleaseCompleteWith (plain_cause 47)))
-  no_free : (m : List ℕ) (h : Header) (i : ℕ) → IsSetup t m h e → admission m 9 ≡ Admitted → place is_empty t.slots.all ≡ Some i → free_pair t ≡ None
+  no_free : (m : List ℕ) (h : Header) (i : ℕ) → IsSetup t m h e → admission m 9 ≡ Ok tt → place is_empty t.slots.all ≡ Some i → free_pair t ≡ None
       → Does t e (replying true h.reference (reply.ReleaseCompleteWith (plain_cause 45)))
   -- a SETUP gets a slot and a pair
-  admits : (m : List ℕ) (h : Header) (i p v : ℕ) → IsSetup t m h e → admission m 9 ≡ Admitted → place is_empty t.slots.all ≡ Some i → free_pair t ≡ Some (pair p v)
+  admits : (m : List ℕ) (h : Header) (i p v : ℕ) → IsSetup t m h e → admission m 9 ≡ Ok tt → place is_empty t.slots.all ≡ Some i → free_pair t ≡ Some (pair p v)
       → Does t e (assigned i (user_call h.reference p v) N3 true (outgoing.Reply (reply.CallProceeding p v)))
   -- an offer gets a slot, a pair and a reference
   offers : (i p v : ℕ) → IsOffer e → place is_empty t.slots.all ≡ Some i → free_pair t ≡ Some (pair p v)
@@ -198,20 +195,20 @@ module _ (t : Table) (label reading room : ℕ) (m : List ℕ) where
     is = heard label reading room head
 
     module _ (restart : IsRestart m h e) where
-      pair_does : (k : ℕ) (r : ConnectionRead) → connection_in m 9 ≡ r → restart_in m 9 ≡ restart_read.Class k → eqb k 0x82 ≡ false → D (pair_restart (global_number t.global.state) t.pool r)
-      pair_does k connection_read.Absent f g n = declines m h 96 (diagnostic.Octet 0x5A) restart no_pair_lem
-      pair_does k connection_read.Unreadable f g n = declines m h 100 (diagnostic.Octet 0x5A) restart bad_pair
-      pair_does k (connection_read.Pair p v) f g n =
-          by_choice D (known_vpci t.pool p) _ _
-          (λ known. by_choice D (ltb v 32 || permanent t.pool p v) _ _
-          (λ bar. declines m h 82 (diagnostic.Pair p v) restart (barred p v f))
-          (λ fair. restarts m h (named.One (pair p v)) (reply.RestartAcknowledge p v) restart (one k p v g n f known fair)))
+      pair_does : (k : ℕ) (r : Read Pair) → connection_in m 9 ≡ r → restart_in m 9 ≡ elem.Readable k → eqb k 0x82 ≡ false → D (pair_restart (global_number t.global.state) t.pool r)
+      pair_does k elem.Absent f g n = declines m h 96 (diagnostic.Octet 0x5A) restart no_pair_lem
+      pair_does k elem.Unreadable f g n = declines m h 100 (diagnostic.Octet 0x5A) restart bad_pair
+      pair_does k (elem.Readable c) f g n =
+          by_choice D (known_vpci t.pool c.vpci) _ _
+          (λ known. by_choice D (ltb c.vci 32 || permanent t.pool c.vpci c.vci) _ _
+          (λ bar. declines m h 82 (diagnostic.Pair c.vpci c.vci) restart (barred c.vpci c.vci f))
+          (λ fair. restarts m h (named.One c) (reply.RestartAcknowledge c.vpci c.vci) restart (one k c.vpci c.vci g n f known fair)))
           (λ unknown. declines m h 100 (diagnostic.Octet 0x5A) restart bad_pair)
 
-      restart_does : (r : RestartRead) → restart_in m 9 ≡ r → D (restart_effect (global_number t.global.state) t.pool r (connection_in m 9))
-      restart_does restart_read.Absent g = declines m h 96 (diagnostic.Octet 0x79) restart no_class
-      restart_does restart_read.Unreadable g = declines m h 100 (diagnostic.Octet 0x79) restart bad_class
-      restart_does (restart_read.Class k) g =
+      restart_does : (r : Read ℕ) → restart_in m 9 ≡ r → D (restart_effect (global_number t.global.state) t.pool r (connection_in m 9))
+      restart_does elem.Absent g = declines m h 96 (diagnostic.Octet 0x79) restart no_class
+      restart_does elem.Unreadable g = declines m h 100 (diagnostic.Octet 0x79) restart bad_class
+      restart_does (elem.Readable k) g =
           by_choice D (eqb k 0x82) _ _
           (λ y. restarts m h named.All reply.RestartAcknowledgeAll restart (all k g y))
           (λ n. pair_does k (connection_in m 9) refl g n)
@@ -236,17 +233,17 @@ module _ (t : Table) (label reading room : ℕ) (m : List ℕ) where
         (λ a. global m h is))
 
     module _ (setup : IsSetup t m h e) where
-      on_pair_does : (i : ℕ) (c : Option Pair) → admission m 9 ≡ Admitted → place is_empty t.slots.all ≡ Some i → free_pair t ≡ c → D (on_pair h.reference i c)
+      on_pair_does : (i : ℕ) (c : Option Pair) → admission m 9 ≡ Ok tt → place is_empty t.slots.all ≡ Some i → free_pair t ≡ c → D (on_pair h.reference i c)
       on_pair_does i None a f g = no_free m h i setup a f g
-      on_pair_does i (Some (pair p v)) a f g = admits m h i p v setup a f g
+      on_pair_does i (Some c) a f g = admits m h i c.vpci c.vci setup a f g
 
-      admitted_does : (f : Option ℕ) → admission m 9 ≡ Admitted → place is_empty t.slots.all ≡ f → D (admitted t h.reference f)
+      admitted_does : (f : Option ℕ) → admission m 9 ≡ Ok tt → place is_empty t.slots.all ≡ f → D (admitted t h.reference f)
       admitted_does None a f = no_slot_lem m h setup a f
       admitted_does (Some i) a f = on_pair_does i (free_pair t) a f refl
 
-      setup_does : (a : Admission) → admission m 9 ≡ a → D (setup_effect t h.reference a)
-      setup_does (Refused c) a = refuses m h c setup a
-      setup_does Admitted a = admitted_does (place is_empty t.slots.all) a refl
+      setup_does : (a : Result ⊤ Cause) → admission m 9 ≡ a → D (setup_effect t h.reference a)
+      setup_does (Err c) a = refuses m h c setup a
+      setup_does (Ok u) a = admitted_does (place is_empty t.slots.all) a refl
 
     no_call_does : eqb h.reference 0 ≡ false → place (is_call h.flag h.reference) t.slots.all ≡ None → D (on_no_call t m h)
     no_call_does z unnamed =

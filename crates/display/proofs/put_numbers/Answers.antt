@@ -1,12 +1,8 @@
 -- `display::put_numbers` meets its contract: its parts one behind the other. Assumes nothing.
-use native.Mathlib.Omega.{arith}
 use Rattle.octets.proofs.Stores.{chain}
 use Rattle.display.proofs.put_numbers.Goals as goal
 
-pub returns : goal.returns
-returns c = record {
-  wrote = chain
-      (chain (chain (chain c.put-worded.ensures.stored c.put_decimal-placed.ensures.wrote) c.put-second.ensures.stored) c.put_decimal-counted.ensures.wrote)
-      c.put.ensures.stored;
-  short = (omega (arith, c.put-worded.ensures.next), omega (arith, c.put-worded.ensures.next, c.requires.1));
-}
+pub returns-clause-wrote : goal.returns-clause-wrote
+returns-clause-wrote c = chain
+    (chain (chain (chain c.put-worded.ensures.stored c.put_decimal-placed.ensures.wrote) c.put-second.ensures.stored) c.put_decimal-counted.ensures.wrote)
+    c.put.ensures.stored

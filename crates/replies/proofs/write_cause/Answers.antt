@@ -13,12 +13,9 @@ use Rattle.replies.specs.Message.{body}
 use Rattle.replies.specs.Reply.{cause}
 use Rattle.replies.proofs.write_cause.Goals as goal
 
-pub diagnostic_field-field-requires : goal.diagnostic_field-field-requires
-diagnostic_field-field-requires c = tt
-
 pub returns : goal.returns
-returns c = let many = sym (ap length c.diagnostic_field-field.ensures.result_value) ∙ field-size c.diagnostic_field-field.result (search rules) c.diagnostic_field-field.ensures.size_bound in
+returns c = let many = sym (ap length c.diagnostic_field-size.ensures.result_value) ∙ field-size c.diagnostic_field-size.result (search rules) c.diagnostic_field-size.ensures.size_bound in
     let es = cause c.args.why ∷ [] in
-    let size : length (body es) ≡ 6 + c.diagnostic_field-field.result.size = rw (body-size (cause c.args.why) []) (omega arith) in
-    whole c.args.flag c.args.reference c.args.kind (6 + c.diagnostic_field-field.result.size) es size (omega arith)
+    let size : length (body es) ≡ 6 + c.diagnostic_field-size.result.size = rw (body-size (cause c.args.why) []) (omega arith) in
+    whole c.args.flag c.args.reference c.args.kind (6 + c.diagnostic_field-size.result.size) es size (omega arith)
     (chain c.put_header-at.ensures (chain c.put_cause.ensures (wrote_none _ _)))

@@ -14,10 +14,10 @@ use Rattle.replies.specs.Reply.{call_state, cause}
 use Rattle.replies.proofs.write_status.Goals as goal
 
 pub returns : goal.returns
-returns c = let many = sym (ap length c.diagnostic_field-field.ensures.result_value) ∙ field-size c.diagnostic_field-field.result (search rules) c.diagnostic_field-field.ensures.size_bound in
+returns c = let many = sym (ap length c.diagnostic_field-size.ensures.result_value) ∙ field-size c.diagnostic_field-size.result (search rules) c.diagnostic_field-size.ensures.size_bound in
     let es = call_state c.args.state ∷ cause c.args.why ∷ [] in
-    let size : length (body es) ≡ 11 + c.diagnostic_field-field.result.size =
+    let size : length (body es) ≡ 11 + c.diagnostic_field-size.result.size =
     rw (body-size (call_state c.args.state) (cause c.args.why ∷ []), body-size (cause c.args.why) []) (omega arith)
     in
-    whole c.args.flag c.args.reference 0x7D (11 + c.diagnostic_field-field.result.size) es size (omega arith)
+    whole c.args.flag c.args.reference 0x7D (11 + c.diagnostic_field-size.result.size) es size (omega arith)
     (chain c.put_header-first.ensures (chain c.put_short-second.ensures (chain c.put_cause.ensures (wrote_none _ _))))

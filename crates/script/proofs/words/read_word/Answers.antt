@@ -1,81 +1,19 @@
--- `script::words::read_word` meets its contract: each answer by the words that it was compared with. Assumes nothing.
-use mathlib.Core.Path.{sym, ◌∙◌}
+-- `script::words::read_word` meets its contract: the longer words, octet by octet. Assumes nothing.
+use Rattle.std.proofs.Common.{rules, ◌≡◌, codes}
+use Rattle.std.proofs.lemmas.Slice.Eq.{text_from_reads}
 use Rattle.script.proofs.words.read_word.Goals as goal
 
-pub returns-then-same : goal.returns-then-same
-returns-then-same c = rw (sym c.same.ensures ∙ c.if-same.true)
+pub returns-in-message : goal.returns-in-message
+returns-in-message c = let e : c.args.w.now ≡ codes "message" = search (rules, text_from_reads) in rw e
 
-pub returns-then-same-2 : goal.returns-then-same-2
-returns-then-same-2 c = rw (
-  sym c.same.ensures ∙ c.if-same.false,
-  sym c.same-2.ensures ∙ c.if-same-2.true,
-)
+pub returns-in-connect : goal.returns-in-connect
+returns-in-connect c = let e : c.args.w.now ≡ codes "connect" = search (rules, text_from_reads) in rw e
 
-pub returns-then-same-3 : goal.returns-then-same-3
-returns-then-same-3 c = rw (
-  sym c.same.ensures ∙ c.if-same.false,
-  sym c.same-2.ensures ∙ c.if-same-2.false,
-  sym c.same-3.ensures ∙ c.if-same-3.true,
-)
+pub returns-in-reload : goal.returns-in-reload
+returns-in-reload c = let e : c.args.w.now ≡ codes "reload" = search (rules, text_from_reads) in rw e
 
-pub returns-then-same-4 : goal.returns-then-same-4
-returns-then-same-4 c = rw (
-  sym c.same.ensures ∙ c.if-same.false,
-  sym c.same-2.ensures ∙ c.if-same-2.false,
-  sym c.same-3.ensures ∙ c.if-same-3.false,
-  sym c.same-4.ensures ∙ c.if-same-4.true,
-)
+pub returns-in-restart : goal.returns-in-restart
+returns-in-restart c = let e : c.args.w.now ≡ codes "restart" = search (rules, text_from_reads) in rw e
 
-pub returns-then-same-5 : goal.returns-then-same-5
-returns-then-same-5 c = rw (
-  sym c.same.ensures ∙ c.if-same.false,
-  sym c.same-2.ensures ∙ c.if-same-2.false,
-  sym c.same-3.ensures ∙ c.if-same-3.false,
-  sym c.same-4.ensures ∙ c.if-same-4.false,
-  sym c.same-5.ensures ∙ c.if-same-5.true,
-)
-
-pub returns-then-same-6 : goal.returns-then-same-6
-returns-then-same-6 c = rw (
-  sym c.same.ensures ∙ c.if-same.false,
-  sym c.same-2.ensures ∙ c.if-same-2.false,
-  sym c.same-3.ensures ∙ c.if-same-3.false,
-  sym c.same-4.ensures ∙ c.if-same-4.false,
-  sym c.same-5.ensures ∙ c.if-same-5.false,
-  sym c.same-6.ensures ∙ c.if-same-6.true,
-)
-
-pub returns-then-same-7 : goal.returns-then-same-7
-returns-then-same-7 c = rw (
-  sym c.same.ensures ∙ c.if-same.false,
-  sym c.same-2.ensures ∙ c.if-same-2.false,
-  sym c.same-3.ensures ∙ c.if-same-3.false,
-  sym c.same-4.ensures ∙ c.if-same-4.false,
-  sym c.same-5.ensures ∙ c.if-same-5.false,
-  sym c.same-6.ensures ∙ c.if-same-6.false,
-  sym c.same-7.ensures ∙ c.if-same-7.true,
-)
-
-pub returns-then-same-8 : goal.returns-then-same-8
-returns-then-same-8 c = rw (
-  sym c.same.ensures ∙ c.if-same.false,
-  sym c.same-2.ensures ∙ c.if-same-2.false,
-  sym c.same-3.ensures ∙ c.if-same-3.false,
-  sym c.same-4.ensures ∙ c.if-same-4.false,
-  sym c.same-5.ensures ∙ c.if-same-5.false,
-  sym c.same-6.ensures ∙ c.if-same-6.false,
-  sym c.same-7.ensures ∙ c.if-same-7.false,
-  sym c.same-8.ensures ∙ c.if-same-8.true,
-)
-
-pub returns : goal.returns
-returns c = rw (
-  sym c.same.ensures ∙ c.if-same.false,
-  sym c.same-2.ensures ∙ c.if-same-2.false,
-  sym c.same-3.ensures ∙ c.if-same-3.false,
-  sym c.same-4.ensures ∙ c.if-same-4.false,
-  sym c.same-5.ensures ∙ c.if-same-5.false,
-  sym c.same-6.ensures ∙ c.if-same-6.false,
-  sym c.same-7.ensures ∙ c.if-same-7.false,
-  sym c.same-8.ensures ∙ c.if-same-8.false,
-) c.read_command.ensures
+pub returns-in-putback : goal.returns-in-putback
+returns-in-putback c = let e : c.args.w.now ≡ codes "putback" = search (rules, text_from_reads) in rw e
