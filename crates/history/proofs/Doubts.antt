@@ -3,8 +3,11 @@
 --   doubt_free, doubt_stays, doubt_begins
 --                            if the pair is in doubt afterwards: where it was free, in doubt, held by a call that goes
 -- Assumes nothing.
+use Rattle.verdicts.specs.declared.Notice.{Notice}
+use Rattle.verdicts.specs.Verdict.{notice_number}
+use Rattle.verdicts.specs.declared.Notice.TheVariants as notice
 use Rattle.channels.specs.declared.Pair.{Pair}
-use Rattle.std.specs.Prelude.{Some}
+use Rattle.std.specs.Prelude.{Some, None, Option}
 use Prim.Native.Nat.{ℕ}
 use mathlib.Core.Path.{◌≡◌, refl, sym, ap, ◌∙◌}
 use mathlib.Core.Logic.{◌≢◌}
@@ -76,7 +79,7 @@ module _ (t : Table) (e : Event) (p v : ℕ) where
     -- no call goes, and no doubt begins or ends
     stays : (x : Change) → doubts_after x t.doubts ≡ t.doubts → notice_of x (flags_of x t.slots) ≢ 3 → ends t e (left x) p v ≡ false → Doubting x
     -- the call of slot i goes, not by a second T308 expiry
-    goes : (i : ℕ) → second_expiry t e i ≡ false → ends t e (left (Put i no_slot 3)) p v ≡ false → Doubting (Put i no_slot 3)
+    goes : (i : ℕ) → second_expiry t e i ≡ false → ends t e (left (Put i no_slot (Some notice.Gone))) p v ≡ false → Doubting (Put i no_slot (Some notice.Gone))
     -- it goes by one
     expires : (i : ℕ) (c : Call) (q : State) → HasCall t i c q → second_expiry t e i ≡ true → is_full t.doubts ≡ false
         → ends t e (left (Doubt i c.pair)) p v ≡ false → Doubting (Doubt i c.pair)
@@ -140,7 +143,7 @@ module _ (t : Table) (e : Event) (p v : ℕ) (other : restarts e p v ≡ false) 
   still : Doubting t e p v Keep
   still = stays Keep refl (λ z. omega arith) (unended Keep refl)
 
-  put : (i : ℕ) (s : Slot) (n : ℕ) → n ≢ 3 → Doubting t e p v (Put i s n)
+  put : (i : ℕ) (s : Slot) (n : Option Notice) → notice_number n ≢ 3 → Doubting t e p v (Put i s n)
   put i s n none = stays (Put i s n) refl none (unended (Put i s n) refl)
 
   requested : (which : Named) (second : Bool) (d : ℕ) → Doubting t e p v (Request which second d)
@@ -152,13 +155,13 @@ module _ (t : Table) (e : Event) (p v : ℕ) (other : restarts e p v ≡ false) 
   verdict_doubting : (full : Bool) (i : ℕ) (c : Call) (q : State) (d : Verdict) → second_expiry t e i ≡ false → (full ≡ false → last_t308 q ≡ false)
       → verdict.Judged (reading_of e) full q d → Doubting t e p v (fated i c d.fate)
   verdict_doubting full i c q d none first (verdict.stays k a s) = still
-  verdict_doubting full i c q d none first (verdict.proceeds k g) = put i _ 0 (λ z. omega arith)
-  verdict_doubting full i c q d none first (verdict.connects a) = put i _ 2 (λ z. omega arith)
-  verdict_doubting full i c q d none first (verdict.releases m) = goes i none (unended (Put i no_slot 3) refl)
-  verdict_doubting full i c q d none first verdict.ends = goes i none (unended (Put i no_slot 3) refl)
-  verdict_doubting full i c q d none first (verdict.times_out k g) = put i _ 0 (λ z. omega arith)
-  verdict_doubting full i c q d none first (verdict.sends_again k l g one) = put i _ 0 (λ z. omega arith)
-  verdict_doubting full i c q d none first (verdict.waits k l g second room) = put i _ 0 (λ z. omega arith)
+  verdict_doubting full i c q d none first (verdict.proceeds k g) = put i _ None (λ z. omega arith)
+  verdict_doubting full i c q d none first (verdict.connects a) = put i _ (Some notice.Answered) (λ z. omega arith)
+  verdict_doubting full i c q d none first (verdict.releases m) = goes i none (unended (Put i no_slot (Some notice.Gone)) refl)
+  verdict_doubting full i c q d none first verdict.ends = goes i none (unended (Put i no_slot (Some notice.Gone)) refl)
+  verdict_doubting full i c q d none first (verdict.times_out k g) = put i _ None (λ z. omega arith)
+  verdict_doubting full i c q d none first (verdict.sends_again k l g one) = put i _ None (λ z. omega arith)
+  verdict_doubting full i c q d none first (verdict.waits k l g second room) = put i _ None (λ z. omega arith)
   verdict_doubting full i c q d none first (verdict.loses k l g second room) = clash second (rw g at (first room))
 
   -- a timer of a tick
@@ -168,7 +171,7 @@ module _ (t : Table) (e : Event) (p v : ℕ) (other : restarts e p v ≡ false) 
       by_test (last_t308 q)
       (λ y. rw (last_expires (no_room t) q (reading_of e) y)
       (by_test (no_room t)
-      (λ full. rw full (put i _ 0 (λ z. omega arith)))
+      (λ full. rw full (put i _ None (λ z. omega arith)))
       (λ room. rw room (expires i c q live (expiry_at t e i c q is live ∙ y) room (unended (Doubt i c.pair) refl)))))
       (λ n. verdict_doubting (no_room t) i c q _ (expiry_at t e i c q is live ∙ n) (λ room. n) (verdict.expired (reading_of e) (no_room t) q))
 
@@ -179,13 +182,13 @@ module _ (t : Table) (e : Event) (p v : ℕ) (other : restarts e p v ≡ false) 
   does_doubting x (view.refuses m h c is a) = still
   does_doubting x (view.no_slot_lem m h is a f) = still
   does_doubting x (view.no_free m h i is a f g) = still
-  does_doubting x (view.admits m h i q w is a f g) = put i _ 1 (λ z. omega arith)
-  does_doubting x (view.offers i q w is f g) = put i _ 1 (λ z. omega arith)
+  does_doubting x (view.admits m h i q w is a f g) = put i _ (Some notice.Asked) (λ z. omega arith)
+  does_doubting x (view.offers i q w is f g) = put i _ (Some notice.Asked) (λ z. omega arith)
   does_doubting x (view.judges m h i c q is f g) =
       verdict_doubting true i c q _ (no_expiry t m h e is i) (λ z. clash refl z) (verdict.judged (reading_of e) true m h q)
   does_doubting x (view.fires i c q is z f g) = fired_doubting i c q is g
-  does_doubting x (view.connects i c q is g s) = put i _ 0 (λ z. omega arith)
-  does_doubting x (view.clears i cause c q is g host) = put i _ 0 (λ z. omega arith)
+  does_doubting x (view.connects i c q is g s) = put i _ None (λ z. omega arith)
+  does_doubting x (view.clears i cause c q is g host) = put i _ None (λ z. omega arith)
   does_doubting x (view.declines m h n d is a) = still
   does_doubting x (view.restarts m h which a is n) =
       let named = restart_is m h e p v is.its_message (rw (is.restart, is.global, is.whole)) ∙ names_same t (restart_in m 9) (connection_in m 9) which a p v n in

@@ -3,6 +3,8 @@
 --   Marking, does_marking       it marks none; it marks those that our RESTART names; all are put back
 --   outs                        if the pair is out of service afterwards
 -- Assumes nothing.
+use Rattle.std.specs.Prelude.{Some, None}
+use Rattle.verdicts.specs.declared.Notice.TheVariants as notice
 use Prim.Native.Nat.{ℕ}
 use mathlib.Core.Path.{◌≡◌, refl, ◌∙◌}
 use mathlib.Core.Bool.{Bool, true, false, not, ◌&&◌, ◌||◌, and-false}
@@ -96,7 +98,7 @@ module _ (t : Table) (e : Event) (p v : ℕ) where
   judged_left : (i : ℕ) (c : Call) (f : Fate) → Marking t e p v (fated i c f)
   judged_left i c fate.Stay = left Keep refl refl
   judged_left i c (fate.To q notice) = left (Put i _ notice) refl refl
-  judged_left i c fate.Gone = left (Put i _ 3) refl refl
+  judged_left i c fate.Gone = left (Put i _ (Some notice.Gone)) refl refl
   judged_left i c fate.InDoubt = left (Doubt i c.pair) refl refl
 
   requested : (which : Named) (second : Bool) (d : ℕ) → Marking t e p v (Request which second d)
@@ -109,12 +111,12 @@ module _ (t : Table) (e : Event) (p v : ℕ) where
   does_marking x (view.refuses m h c is a) = left Keep refl refl
   does_marking x (view.no_slot_lem m h is a f) = left Keep refl refl
   does_marking x (view.no_free m h i is a f g) = left Keep refl refl
-  does_marking x (view.admits m h i q w is a f g) = left (Put i _ 1) refl refl
-  does_marking x (view.offers i q w is f g) = left (Put i _ 1) refl refl
+  does_marking x (view.admits m h i q w is a f g) = left (Put i _ (Some notice.Asked)) refl refl
+  does_marking x (view.offers i q w is f g) = left (Put i _ (Some notice.Asked)) refl refl
   does_marking x (view.judges m h i c q is f g) = judged_left i c (judge m h q (reading_of e)).fate
   does_marking x (view.fires i c q is z f g) = judged_left i c (expire (no_room t) q (reading_of e)).fate
-  does_marking x (view.connects i c q is g n) = left (Put i _ 0) refl refl
-  does_marking x (view.clears i cause c q is g host) = left (Put i _ 0) refl refl
+  does_marking x (view.connects i c q is g n) = left (Put i _ None) refl refl
+  does_marking x (view.clears i cause c q is g host) = left (Put i _ None) refl refl
   does_marking x (view.declines m h n d is a) = left Keep refl refl
   does_marking x (view.restarts m h which a is n) = left (Restart which User) refl refl
   does_marking x (view.requests target is w m) = requested _ _ _
