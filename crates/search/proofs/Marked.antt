@@ -11,8 +11,8 @@ use mathlib.Core.Bool.{Bool, true, false, ◌&&◌, ◌||◌, or-true, or-false,
 use mathlib.Core.List.{List}
 use native.Mathlib.Omega.{arith}
 use lib.Dec.{eqb, leb, ltb}
-use lib.ListN.{length, get_or, set, length-set}
-use lib.Seq.{get_or-set_same, get_or-set_other}
+use lib.ListN.{length-take, length, take, get_or, set, length-set}
+use lib.Seq.{get_or-set_same, get_or-set_other, get_or-take}
 use borrow.Author.Tests.{eqb-true, eqb-false, eq-eqb, leb-true, ltb-true, lt-ltb, le-leb}
 use Rattle.channels.specs.Channels.{range_count}
 use Rattle.channels.specs.declared.Pair.{Pair}
@@ -115,9 +115,17 @@ module _ (rs : List Range) (c : Pair) where
         rest = λ k o above h. u.rest k o (omega arith) h;
       }
 
-  pub upto_read : (j : ℕ) (old new : Marks) → length rs ≤ j → new.reads ≡ old.reads + 1 → Upto rs j c old.on new.on
-      → Read rs (λ p v. eqb c.vpci p && eqb c.vci v) 1 old new
-  upto_read j old new end e u = record { count = e; wide = u.wide; mark = λ k o below h. u.mark k o (omega arith) h }
+  pub upto_read : (n j : ℕ) (old new : Marks) → length (take n rs) ≤ j → new.reads ≡ old.reads + 1 → Upto rs j c old.on new.on
+      → Read (take n rs) (λ p v. eqb c.vpci p && eqb c.vci v) 1 old new
+  upto_read n j old new end e u =
+      record {
+        count = e;
+        wide = u.wide;
+        mark = λ k o below h.
+            let few = length-take n rs in
+            let same : range_at (take n rs) k ≡ range_at rs k = get_or-take n rs k (record { vpci = 0; first = 0; last = 0 }) (omega arith) in
+            rw same (u.mark k o (omega arith) h);
+      }
 
 module _ (rs : List Range) where
   pub read_none : (on : Marks) → Read rs (λ p v. false) 0 on on

@@ -39,7 +39,7 @@ use Rattle.pairs.specs.Pairs.{room}
 use Rattle.slots.specs.Slots.{slot_count}
 use Rattle.search.proofs.Crowd.{Sparse, sparse}
 use Rattle.search.proofs.Free.{all_taken, singly}
-use Rattle.search.proofs.Used.{used_most, used-spanning, lowest_used}
+use Rattle.search.proofs.Used.{used_few, used-spanning, lowest_used}
 
 module _ (t : ℕ → ℕ → Bool) (q : ℕ) (rest : Option Pair) where
   scan-first : (n w v : ℕ) → w ≤ v → v < w + n → ((u : ℕ) → w ≤ u → u < v → t q u ≡ true) → t q v ≡ false → scan t q n w rest ≡ Some (pair q v)
@@ -110,10 +110,8 @@ module _ (ss : List Slot) (ds : Pairs) (out : OutOfService) (g : GlobalState) (p
   abbrev U : List Range
   U = take (used pool.ranges) pool.ranges
 
-  pub unused_answer : length U ≡ 0 → ◌≡◌ {A = Finding} (record { found = None; reads = 0 }) (searched ss ds out g pool)
-  unused_answer e =
-      let count = length-take-le (used pool.ranges) pool.ranges (used_most pool.ranges) in
-      let none : used pool.ranges ≡ 0 = omega arith in
+  pub unused_answer : used pool.ranges ≡ 0 → ◌≡◌ {A = Finding} (record { found = None; reads = 0 }) (searched ss ds out g pool)
+  unused_answer none =
       let found : lowest T pool.ranges ≡ None = lowest_used T pool.ranges ∙ rw none in
       rw (found, used-spanning pool.ranges, eq-eqb (used pool.ranges) 0 none)
 
@@ -121,12 +119,12 @@ module _ (ss : List Slot) (ds : Pairs) (out : OutOfService) (g : GlobalState) (p
   pub all_answer : is_all_taken out g ≡ true → ◌≡◌ {A = Finding} (record { found = None; reads = 0 }) (searched ss ds out g pool)
   all_answer e = rw (none-lowest T pool.ranges (λ p v h. all_taken ss ds out g pool.permanents e p v), e, or-true (eqb (spanning pool.ranges) 0))
 
-  pub answer : length ss ≡ slot_count → length ds.numbers ≡ room → length out.pairs.numbers ≡ room → length pool.permanents ≡ permanent_count → length U ≤ range_count
-      → is_all_taken out g ≡ false → length U ≢ 0 → {c : Option Pair} {old new : Marks} → old ≡ record { on = replicate all_marks false; reads = 0 }
+  pub answer : length ss ≡ slot_count → length ds.numbers ≡ room → length out.pairs.numbers ≡ room → length pool.permanents ≡ permanent_count → length pool.ranges ≡ range_count
+      → is_all_taken out g ≡ false → used pool.ranges ≢ 0 → {c : Option Pair} {old new : Marks} → old ≡ record { on = replicate all_marks false; reads = 0 }
       → Read U (taken_singly ss ds out g pool.permanents) (pairs_there ss ds out g pool.permanents) old new → c ≡ lowest_in new.on 0 U
       → ◌≡◌ {A = Finding} (record { found = c; reads = new.reads }) (searched ss ds out g pool)
-  answer s d o e most single some {c} {old} {new} fresh read found =
-      let long = length-take-le (used pool.ranges) pool.ranges (used_most pool.ranges) in
+  answer s d o e four single some {c} {old} {new} fresh read found =
+      let most = used_few pool.ranges range_count four in
       let by = taken_singly ss ds out g pool.permanents in
       let wide : length new.on ≡ all_marks = read.wide ∙ rw fresh (length-replicate all_marks false) in
       let told : (j i : ℕ) → j < length U → i < near → get_or new.on ((0 + j) * near + i) false ≡ by (range_at U j).vpci ((range_at U j).first + i) =
@@ -135,5 +133,5 @@ module _ (ss : List Slot) (ds : Pairs) (out : OutOfService) (g : GlobalState) (p
       rw place (read.mark j i low h ∙ rw fresh (rw (get_or-replicate all_marks (j * near + i) false false (omega arith)))) in
       let same = lowest_same by T pool.ranges (singly ss ds out g pool.permanents single) in
       let count : new.reads ≡ pairs_there ss ds out g pool.permanents = read.count ∙ rw fresh (omega arith) in
-      let none : eqb (used pool.ranges) 0 ≡ false = ne_eqb (used pool.ranges) 0 (λ z. some (omega arith)) in
+      let none : eqb (used pool.ranges) 0 ≡ false = ne_eqb (used pool.ranges) 0 some in
       rw (found ∙ walked by (sparse ss ds out g pool.permanents s d o e) new.on 0 U wide (omega arith) told ∙ sym (lowest_used by pool.ranges) ∙ same, count, used-spanning pool.ranges, none, single)

@@ -2,6 +2,7 @@
 --   near, all_marks        how many VCIs of a range have a mark; how many marks there are
 --   used                  how many ranges there are up to the last that has a VCI
 --   range_at               a range of a list, by its number
+--   looked                 the ranges that a search looks at
 --   offset_in              which mark of a range a pair has
 --   Read                  pairs are read: they are counted, and the marks of those that pass a test are set beside those that were
 --   width, free_in          how many VCIs of a range a search looks at; the first of them whose mark is not set
@@ -16,6 +17,7 @@ use Rattle.pairs.specs.Pairs.{room}
 use Rattle.slots.specs.Slots.{slot_count}
 use Rattle.search.specs.Search.{spans}
 use Rattle.search.specs.declared.Marks.{Marks}
+use Rattle.search.specs.declared.Ranges.{Ranges}
 
 -- one more than there can be pairs
 abbrev pub near : ℕ
@@ -37,6 +39,10 @@ offset_in r c =
     cond (eqb r.vpci c.vpci && leb r.first c.vci)
     (cond (ltb (c.vci - r.first) near) (Some (c.vci - r.first)) None)
     None
+
+-- those that a search looks at
+abbrev pub looked : Ranges → List Range
+looked r = take r.used r.all
 
 -- range k has the marks from k times `near` on
 pub record Read (rs : List Range) (t : ℕ → ℕ → Bool) (many : ℕ) (old new : Marks) : Type 0 where

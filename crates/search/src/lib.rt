@@ -1,14 +1,14 @@
 // The search for the lowest free pair, and a count of the pairs that it reads.
 //   Finding, find_free     the lowest free permitted pair by VPCI and then VCI, and how many pairs were read to find it
-//   ranges_used            the ranges up to the last that has a VCI
+//   Ranges, ranges_used    the ranges that a search looks at: those up to the last that has a VCI
 //   pair_of                the pair of a number
 //   offset_in              which mark of a range a pair has
+//   free_in                the first mark of a range that is not set
 //   Marks                  a mark for each of the NEAR first VCIs of each range, if its pair is taken; how many pairs were read
 //   Marks::read            a pair is read: it is counted, and its marks are set
-//   Marks::read_place, read_slots, read_permanents, read_listed     each pair that is there is read; read_all: all
-//   free_in, Marks::lowest_free     the first VCI of a range without a mark; the lowest pair without one
-// `find_free` has no `requires`; the others ask for no more ranges than there can be, and for a count that is not near
-// its end.
+//   Marks::read_place, read_slots, read_permanents, read_listed, read_request     each pair that is there is read
+//   Marks::lowest_free     the lowest pair whose mark is not set
+// `find_free` has no `requires`; those of `Marks` ask for a count that is not near its end.
 // Assumes nothing.
 #![tactic(auto)]
 
@@ -19,7 +19,7 @@ ghost use Rattle.pairs.specs.Pairs.{room, is_number};
 ghost use Rattle.calls.specs.Calls.{is_live, holds_pair};
 ghost use Rattle.service.specs.Service.{one_pair};
 ghost use Rattle.search.specs.Search.{taken_singly, how_many, has_pair, there, pairs_there, searched};
-ghost use Rattle.search.specs.Marks.{near, used, offset_in, Read, free_in, lowest_in};
+ghost use Rattle.search.specs.Marks.{near, used, looked, offset_in, Read, free_in, lowest_in};
 
 use calls::Slot;
 use channels::{Named, PERMANENTS, Pair, Pool, RANGES, Range};
@@ -38,15 +38,23 @@ pub struct Finding {
 }
 
 // Those of range k begin at k times NEAR.
-#[derive(Drop)]
+#[derive(Clone, Copy)]
 struct Marks {
     on: [bool; RANGES * NEAR],
     reads: u32,
 }
 
+// The ranges that a search looks at: the first `used` of them.
+#[derive(Clone, Copy)]
+struct Ranges {
+    all: [Range; RANGES],
+    used: usize,
+}
+
 // A range without a VCI counts only before one that has some.
-fn ranges_used(ranges: &[Range]) -> &[Range]
-    ensures { result.now ≡ take (used ranges.now) ranges.now }
+fn ranges_used(ranges: &[Range; RANGES]) -> usize
+    ensures value { result ≡ used ranges.now }
+    ensures within { result ≤ range_count }
 {
     let mut n = 0;
     for (k, range) in ranges.iter().enumerate() {
@@ -54,7 +62,7 @@ fn ranges_used(ranges: &[Range]) -> &[Range]
             n = k + 1;
         }
     }
-    &ranges[..n]
+    n
 }
 
 fn pair_of(number: u32) -> Pair
@@ -89,12 +97,16 @@ fn free_in(range: Range, on: &[bool]) -> Option<usize>
 
 impl Marks {
     // The count is stepped, and the pair's mark is set in each range.
-    fn read(&mut self, ranges: &[Range], pair: Pair)
-        requires { (length ranges.now ≤ range_count) × (self.old.reads < 3 * near) }
-        ensures { Read ranges.now (λ p v. eqb pair.vpci p && eqb pair.vci v) 1 self.old self.new }
+    fn read(&mut self, ranges: &Ranges, pair: Pair)
+        requires { self.old.reads < 3 * near }
+        ensures { Read (looked ranges.now) (λ p v. eqb pair.vpci p && eqb pair.vci v) 1 self.old self.new }
     {
         self.reads += 1;
-        for (k, range) in ranges.iter().enumerate() {
+        // Over all four, left by `break`: a loop over the slice of those in use costs a search of 32 calls half as much again.
+        for (k, range) in ranges.all.iter().enumerate() {
+            if k == ranges.used {
+                break;
+            }
             if let Some(offset) = offset_in(*range, pair) {
                 self.on[k * NEAR + offset] = true;
             }
@@ -102,9 +114,9 @@ impl Marks {
     }
 
     // The pair of a place, if there is one.
-    fn read_place(&mut self, ranges: &[Range], place: Option<Pair>)
-        requires { (length ranges.now ≤ range_count) × (self.old.reads < 3 * near) }
-        ensures { Read ranges.now (λ p v. is_pair p v place) (there place) self.old self.new }
+    fn read_place(&mut self, ranges: &Ranges, place: Option<Pair>)
+        requires { self.old.reads < 3 * near }
+        ensures { Read (looked ranges.now) (λ p v. is_pair p v place) (there place) self.old self.new }
     {
         if let Some(pair) = place {
             self.read(ranges, pair);
@@ -112,18 +124,18 @@ impl Marks {
     }
 
     // The pair of each call.
-    fn read_slots(&mut self, ranges: &[Range], slots: &[Slot; SLOTS])
-        requires { (length ranges.now ≤ range_count) × (self.old.reads ≤ near) }
-        ensures { Read ranges.now (λ p v. list_any (holds_pair p v) slots.now) (how_many is_live slots.now) self.old self.new }
+    fn read_slots(&mut self, ranges: &Ranges, slots: &[Slot; SLOTS])
+        requires { self.old.reads ≤ near }
+        ensures { Read (looked ranges.now) (λ p v. list_any (holds_pair p v) slots.now) (how_many is_live slots.now) self.old self.new }
     {
         for slot in slots {
             self.read_place(ranges, slot.entry());
         }
     }
 
-    fn read_permanents(&mut self, ranges: &[Range], permanents: &[Option<Pair>; PERMANENTS])
-        requires { (length ranges.now ≤ range_count) × (self.old.reads ≤ near) }
-        ensures { Read ranges.now (λ p v. among p v permanents.now) (how_many has_pair permanents.now) self.old self.new }
+    fn read_permanents(&mut self, ranges: &Ranges, permanents: &[Option<Pair>; PERMANENTS])
+        requires { self.old.reads ≤ near }
+        ensures { Read (looked ranges.now) (λ p v. among p v permanents.now) (how_many has_pair permanents.now) self.old self.new }
     {
         for place in permanents {
             self.read_place(ranges, *place);
@@ -131,9 +143,9 @@ impl Marks {
     }
 
     // Each pair of a list: those in doubt, and those out of service.
-    fn read_listed(&mut self, ranges: &[Range], numbers: &[u32])
-        requires { (length ranges.now ≤ range_count) × (length numbers.now ≤ room) × (self.old.reads ≤ near) }
-        ensures { Read ranges.now (λ p v. list_any (is_number p v) numbers.now) (length numbers.now) self.old self.new }
+    fn read_listed(&mut self, ranges: &Ranges, numbers: &[u32])
+        requires { (length numbers.now ≤ room) × (self.old.reads ≤ near) }
+        ensures { Read (looked ranges.now) (λ p v. list_any (is_number p v) numbers.now) (length numbers.now) self.old self.new }
     {
         for number in numbers {
             self.read(ranges, pair_of(*number));
@@ -141,9 +153,9 @@ impl Marks {
     }
 
     // The one pair that a RESTART of ours names.
-    fn read_request(&mut self, ranges: &[Range], state: GlobalState)
-        requires { (length ranges.now ≤ range_count) × (self.old.reads ≤ near) }
-        ensures { Read ranges.now (λ p v. is_pair p v (one_pair state)) (there (one_pair state)) self.old self.new }
+    fn read_request(&mut self, ranges: &Ranges, state: GlobalState)
+        requires { self.old.reads ≤ near }
+        ensures { Read (looked ranges.now) (λ p v. is_pair p v (one_pair state)) (there (one_pair state)) self.old self.new }
     {
         if let GlobalState::RestartRequest(Named::One(pair), _, _) = state {
             self.read(ranges, pair);
@@ -151,11 +163,11 @@ impl Marks {
     }
 
     // The lowest pair of the ranges that has no mark.
-    fn lowest_free(&self, ranges: &[Range]) -> Option<Pair>
-        requires { length ranges.now ≤ range_count }
-        ensures { result ≡ lowest_in self.now.on 0 ranges.now }
+    fn lowest_free(&self, ranges: &Ranges) -> Option<Pair>
+        requires { ranges.now.used ≤ range_count }
+        ensures { result ≡ lowest_in self.now.on 0 (looked ranges.now) }
     {
-        for (k, range) in ranges.iter().enumerate() {
+        for (k, range) in ranges.all[..ranges.used].iter().enumerate() {
             if let Some(offset) = free_in(*range, &self.on[k * NEAR..]) {
                 return Some(Pair {
                     vpci: range.vpci,
@@ -178,8 +190,11 @@ pub fn find_free(
 ) -> Finding
     ensures { result ≡ searched slots.all doubts out state pool }
 {
-    let ranges = ranges_used(&pool.ranges);
-    if ranges.is_empty() || service::is_all_taken(out, state) {
+    let ranges = Ranges {
+        all: pool.ranges,
+        used: ranges_used(&pool.ranges),
+    };
+    if ranges.used == 0 || service::is_all_taken(out, state) {
         return Finding {
             found: None,
             reads: 0,
@@ -189,13 +204,13 @@ pub fn find_free(
         on: [false; RANGES * NEAR],
         reads: 0,
     };
-    marks.read_slots(ranges, &slots.all);
-    marks.read_permanents(ranges, &pool.permanents);
-    marks.read_request(ranges, state);
-    marks.read_listed(ranges, doubts.listed());
-    marks.read_listed(ranges, out.pairs.listed());
+    marks.read_slots(&ranges, &slots.all);
+    marks.read_permanents(&ranges, &pool.permanents);
+    marks.read_request(&ranges, state);
+    marks.read_listed(&ranges, doubts.listed());
+    marks.read_listed(&ranges, out.pairs.listed());
     Finding {
-        found: marks.lowest_free(ranges),
+        found: marks.lowest_free(&ranges),
         reads: marks.reads,
     }
 }

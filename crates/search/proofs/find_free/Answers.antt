@@ -1,7 +1,6 @@
 -- `find_free`: what was read is what there is, and the walk finds the lowest pair that is free.
-use borrow.Author.Tests.{eqb-true, eqb-false}
-use Rattle.std.proofs.Common.{◌≡◌, length, refl, sym, ◌∙◌, arith, rules}
-use Rattle.channels.specs.Channels.{range_count, permanent_count}
+use Rattle.std.proofs.Common.{take, ◌≡◌, length, refl, sym, ◌∙◌, arith, rules}
+use Rattle.channels.specs.Channels.{permanent_count}
 use Rattle.pairs.specs.Pairs.{room}
 use Rattle.calls.specs.Calls.{is_live}
 use Rattle.service.specs.Service.{one_pair}
@@ -10,55 +9,49 @@ use Rattle.search.specs.Search.{has_pair}
 use Rattle.search.proofs.Marked.{read_then}
 use Rattle.search.proofs.Pass.{many_few}
 use Rattle.search.proofs.Together.{together, there_most, listed_few}
-use Rattle.search.proofs.Used.{used_few}
 use Rattle.search.proofs.Walked.{unused_answer, all_answer, answer}
-use Rattle.search.proofs.find_free.Goals.{then-is_empty-via-then-is_empty, then-is_empty-via-else-is_empty+then-is_all_taken}
+use Rattle.search.proofs.find_free.Goals.{then-ranges-eq0-via-then-ranges-eq0, then-ranges-eq0-via-else-ranges-eq0+then-is_all_taken}
 use Rattle.search.proofs.find_free.Goals as goal
 
-pub returns-then-is_empty : goal.returns-then-is_empty
-returns-then-is_empty c =
+pub returns-then-ranges-eq0 : goal.returns-then-ranges-eq0
+returns-then-ranges-eq0 c =
     let a = c.args in
-    elim c.then-is_empty.branch [
-      | then-is_empty-via-then-is_empty w ↦
-          unused_answer a.slots.all a.doubts a.out a.state a.pool (rw c.ranges_used-ranges.ensures at (eqb-true _ _ (sym c.is_empty.ensures ∙ w.if-is_empty.true)))
-      | then-is_empty-via-else-is_empty+then-is_all_taken w ↦
+    elim c.then-ranges-eq0.branch [
+      | then-ranges-eq0-via-then-ranges-eq0 w ↦ unused_answer a.slots.all a.doubts a.out a.state a.pool (sym c.ranges_used.ensures.value ∙ w.if-ranges-eq0.true)
+      | then-ranges-eq0-via-else-ranges-eq0+then-is_all_taken w ↦
           all_answer a.slots.all a.doubts a.out a.state a.pool (sym w.is_all_taken.ensures ∙ w.if-is_all_taken.true)
     ]
 
 pub read_permanents-requires : goal.read_permanents-requires
 read_permanents-requires c =
     let a = c.args in
-    let few = rw (sym c.ranges_used-ranges.ensures) at (used_few a.pool.ranges range_count (search rules)) in
     let held = many_few is_live a.slots.all slot_count (search rules) in
     let n0 = c.read_slots.ensures.count in
-    (few, omega arith)
+    omega arith
 
 pub read_request-requires : goal.read_request-requires
 read_request-requires c =
     let a = c.args in
-    let few = rw (sym c.ranges_used-ranges.ensures) at (used_few a.pool.ranges range_count (search rules)) in
     let held = many_few is_live a.slots.all slot_count (search rules) in
     let n0 = c.read_slots.ensures.count in
     let kept = many_few has_pair a.pool.permanents permanent_count (search rules) in
     let n1 = c.read_permanents.ensures.count in
-    (few, omega arith)
+    omega arith
 
 pub read_listed-requires : goal.read_listed-requires
 read_listed-requires c =
     let a = c.args in
-    let few = rw (sym c.ranges_used-ranges.ensures) at (used_few a.pool.ranges range_count (search rules)) in
     let held = many_few is_live a.slots.all slot_count (search rules) in
     let n0 = c.read_slots.ensures.count in
     let kept = many_few has_pair a.pool.permanents permanent_count (search rules) in
     let n1 = c.read_permanents.ensures.count in
     let one = there_most (one_pair a.state) in
     let n2 = c.read_request.ensures.count in
-    (few, rw c.listed.ensures (listed_few a.doubts (search rules)), omega arith)
+    (rw c.listed.ensures (listed_few a.doubts (search rules)), omega arith)
 
 pub read_listed-requires-2 : goal.read_listed-requires-2
 read_listed-requires-2 c =
     let a = c.args in
-    let few = rw (sym c.ranges_used-ranges.ensures) at (used_few a.pool.ranges range_count (search rules)) in
     let held = many_few is_live a.slots.all slot_count (search rules) in
     let n0 = c.read_slots.ensures.count in
     let kept = many_few has_pair a.pool.permanents permanent_count (search rules) in
@@ -67,20 +60,20 @@ read_listed-requires-2 c =
     let n2 = c.read_request.ensures.count in
     let doubts = rw (sym c.listed.ensures) at (listed_few a.doubts (search rules)) in
     let n3 = c.read_listed.ensures.count in
-    (few, rw c.listed-2.ensures (listed_few a.out.pairs (search rules)), omega arith)
+    (rw c.listed-2.ensures (listed_few a.out.pairs (search rules)), omega arith)
 
 pub returns : goal.returns
 returns c =
     let a = c.args in
-    let rs = c.ranges_used-ranges.result.now in
+    let rs = take c.ranges_used.result a.pool.ranges in
     let ds : length a.doubts.numbers ≡ room = search rules in
     let os : length a.out.pairs.numbers ≡ room = search rules in
     let doubts = rw c.listed.ensures at c.read_listed.ensures in
     let out = rw c.listed-2.ensures at c.read_listed-2.ensures in
     let all = read_then rs (read_then rs (read_then rs (read_then rs c.read_slots.ensures c.read_permanents.ensures) c.read_request.ensures) doubts) out in
-    answer a.slots.all a.doubts a.out a.state a.pool (search rules) ds os (search rules) (used_few a.pool.ranges range_count (search rules))
+    answer a.slots.all a.doubts a.out a.state a.pool (search rules) ds os (search rules) (search rules)
     (sym c.is_all_taken.ensures ∙ c.if-is_all_taken.false)
-    (λ z. eqb-false _ _ (sym c.is_empty.ensures ∙ c.if-is_empty.false) (rw c.ranges_used-ranges.ensures z))
+    (λ z. c.if-ranges-eq0.false (c.ranges_used.ensures.value ∙ z))
     {new = c.read_listed-2.new.self} refl
-    (rw c.ranges_used-ranges.ensures at (together a.slots.all a.doubts a.out a.state a.pool.permanents rs ds os all))
-    (rw c.ranges_used-ranges.ensures at c.lowest_free.ensures)
+    (rw c.ranges_used.ensures.value at (together a.slots.all a.doubts a.out a.state a.pool.permanents rs ds os all))
+    (rw c.ranges_used.ensures.value at c.lowest_free.ensures)

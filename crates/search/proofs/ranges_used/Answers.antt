@@ -5,6 +5,6 @@ use Rattle.search.proofs.ranges_used.Goals as goal
 
 pub loop-k-preserved : goal.loop-k-preserved
 loop-k-preserved c = elim c.if-range.branch [
-  | then-range w ↦ (omega (arith, w.n-is), w.n-is ∙ used_next c.args.ranges.now c.loop-k.k c.loop-k-test.true w.if-range.true)
-  | else-range w ↦ (omega (arith, w.n-is, c.loop-k.invariant.0), w.n-is ∙ c.loop-k.invariant.1 ∙ used_past c.args.ranges.now c.loop-k.k c.loop-k-test.true w.if-range.false)
+  | then-range w ↦ w.n-is ∙ used_next c.args.ranges.now c.loop-k.k (omega arith) w.if-range.true
+  | else-range w ↦ w.n-is ∙ c.loop-k.invariant ∙ used_past c.args.ranges.now c.loop-k.k (omega arith) w.if-range.false
 ]

@@ -4,4 +4,4 @@ use Rattle.search.proofs.Marked.{Upto}
 use Rattle.search.proofs.Marks.read.Given as goal
 
 abbrev pub invariant-loop-k : goal.invariant-loop-k
-invariant-loop-k l = (l.self.reads ≡ l.fn.self.reads + 1) × Upto l.ranges l.k l.pair l.fn.self.on l.self.on
+invariant-loop-k l = (l.self.reads ≡ l.fn.self.reads + 1) × Upto l.ranges.all l.k l.pair l.fn.self.on l.self.on
