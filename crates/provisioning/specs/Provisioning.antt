@@ -3,12 +3,13 @@
 --   range_ok                        the limits of one range
 --   before, apart                  the order of pairs, and of ranges
 --   all_below                       a test of each number below another
+--   Gives                          a list of ranges that a closure gives
 --   fits, ascending                the k-th of a list of ranges keeps the limits and comes behind the one before it; and so the first n
 --   ranges_ok, pairs_ok              a list that breaks no rule
 --   Provision, numbered, pool_of, refused, provision     what start makes of its lists
 --   provision_of                   the same, said by a pool or none
 -- Assumes nothing.
-use Rattle.std.specs.Prelude.{ℕ, zero, suc, ◌+◌, ◌-◌, ◌*◌, ◌/◌, ◌%◌, Bool, true, false, cond, ◌&&◌, ◌||◌, List, [], ◌∷◌, eqb, leb, ltb, length, get_or, Option, Some, None}
+use Rattle.std.specs.Prelude.{ℕ, zero, suc, ◌+◌, ◌-◌, ◌*◌, ◌/◌, ◌%◌, ◌^◌, ◌<◌, ◌≡◌, Bool, true, false, cond, ◌&&◌, ◌||◌, List, [], ◌∷◌, eqb, leb, ltb, length, get_or, Option, Some, None}
 use Rattle.channels.specs.Channels.{pair, no_range, empty_pool}
 use Rattle.channels.specs.declared.Pair.{Pair}
 use Rattle.channels.specs.declared.Range.{Range}
@@ -48,6 +49,10 @@ before p v q w = ltb p q || (eqb p q && ltb v w)
 
 abbrev pub apart : Range → Range → Bool
 apart a b = before a.vpci a.last b.vpci b.first
+
+-- a list of ranges that a closure gives one by one
+abbrev pub Gives : (ℕ → Range → Type 0) → (ℕ → Range) → Type 0
+Gives post at = (k : ℕ) (r : Range) → k < 2 ^ 64 → post k r → r ≡ at k
 
 -- "Ranges ascend and are disjoint by (VPCI, VCI); pairs strictly ascend.": each ends before the next begins
 abbrev pub fits : (ℕ → Range) → ℕ → Bool

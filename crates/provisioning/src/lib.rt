@@ -1,39 +1,40 @@
 // Provisioning: the lists that start takes, checked and made into a pool.
 //   before                       the order of pairs, by VPCI and then VCI
 //   range_at, single_at          the k-th range of a list of triples; the k-th of a list of pairs, as the range of its one VCI
-//   entry_at                     the k-th of a list of pairs, as an entry of the pool
+//   entry_at                     the k-th of a list of pairs, as a place of the pool has it
 //   range_ok                     the limits of one range
 //   apart                        if a range ends before another begins
-//   range_fits, single_fits      if the k-th keeps the limits and comes behind the one before it
-//   ranges_ascend, pairs_ascend  all of a list
+//   fits, ascend                 if the k-th of a list of ranges keeps the limits and comes behind the one before it; the first n
 //   ranges_ok, pairs_ok          a list's length and all of it
 //   accepted_pool, pool_of       the pool of the lists, and the pool of start's lists if they are accepted
-// Nothing here has a `requires`. Assumes nothing.
+// Nothing here has a `requires`, but that what `fits` and `ascend` take may be called. Assumes nothing.
 #![tactic(auto)]
 
-ghost use Rattle.std.specs.Prelude.{◌≡◌, ◌/◌, length};
-ghost use Rattle.provisioning.specs.Provisioning.{before, apart, range_at, single_at, entry_at, range_ok, fits, ascending, ranges_ok, pairs_ok, pool_of, provision, provision_of};
+ghost use Rattle.std.specs.Prelude.{◌≡◌, ℕ};
+ghost use Rattle.provisioning.specs.Provisioning.{before, apart, range_at, single_at, entry_at, range_ok, Gives, fits, ascending, ranges_ok, pairs_ok, pool_of, provision, provision_of};
 
 use channels::{Pair, Pool, Range};
 
-// If the pair (p, v) comes before the pair (q, w).
-pub fn before(p: u16, v: u16, q: u16, w: u16) -> bool
-    ensures { result ≡ before p v q w }
+// If one pair comes before another.
+pub fn before(pair: Pair, other: Pair) -> bool
+    ensures { result ≡ before pair.vpci pair.vci other.vpci other.vci }
 {
-    if p < q {
-        return true;
-    }
-    if p == q {
-        return v < w;
-    }
-    false
+    pair < other
 }
 
 // If all of `a` comes before all of `b`.
 pub fn apart(a: Range, b: Range) -> bool
     ensures { result ≡ apart a b }
 {
-    before(a.vpci, a.last, b.vpci, b.first)
+    let last = Pair {
+        vpci: a.vpci,
+        vci: a.last,
+    };
+    let first = Pair {
+        vpci: b.vpci,
+        vci: b.first,
+    };
+    before(last, first)
 }
 
 // The k-th triple, or an unused range.
@@ -84,65 +85,27 @@ pub fn entry_at(s: &[u16], k: usize) -> Option<Pair>
 pub fn range_ok(range: Range) -> bool
     ensures { result ≡ range_ok range }
 {
-    if range.vpci > 255 {
-        return false;
-    }
-    if range.first < 32 {
-        return false;
-    }
-    range.first <= range.last
+    range.vpci <= 255 && range.first >= 32 && range.first <= range.last
 }
 
-pub fn range_fits(s: &[u16], k: usize) -> bool
-    ensures { result ≡ fits (range_at s.now) k }
+// If the k-th range keeps the limits and comes behind the one before it.
+pub fn fits<F: Fn(usize) -> Range>(at: F, k: usize) -> bool
+    requires { F.IsAlwaysCallable at }
+    ensures { (f : ℕ → Range) → Gives (F.post at) f → result ≡ fits f k }
 {
-    let range = range_at(s, k);
-    if !range_ok(range) {
-        return false;
-    }
-    if k == 0 {
-        return true;
-    }
-    apart(range_at(s, k - 1), range)
+    let range = at(k);
+    range_ok(range) && (k == 0 || apart(at(k - 1), range))
 }
 
-pub fn single_fits(s: &[u16], k: usize) -> bool
-    ensures { result ≡ fits (single_at s.now) k }
+// If each of the first n ranges does.
+pub fn ascend<F: Fn(usize) -> Range>(at: F, n: usize) -> bool
+    requires { F.IsAlwaysCallable at }
+    ensures { (f : ℕ → Range) → Gives (F.post at) f → result ≡ ascending f n }
 {
-    let range = single_at(s, k);
-    if !range_ok(range) {
-        return false;
-    }
-    if k == 0 {
-        return true;
-    }
-    apart(single_at(s, k - 1), range)
-}
-
-pub fn ranges_ascend(s: &[u16]) -> bool
-    ensures { result ≡ ascending (range_at s.now) (length s.now / 3) }
-{
-    let n = s.len() / 3;
-    let mut k: usize = 0;
-    while k < n {
-        if !range_fits(s, k) {
+    for k in 0..n {
+        if !fits(&at, k) {
             return false;
         }
-        k += 1;
-    }
-    true
-}
-
-pub fn pairs_ascend(s: &[u16]) -> bool
-    ensures { result ≡ ascending (single_at s.now) (length s.now / 2) }
-{
-    let n = s.len() / 2;
-    let mut k: usize = 0;
-    while k < n {
-        if !single_fits(s, k) {
-            return false;
-        }
-        k += 1;
     }
     true
 }
@@ -151,53 +114,24 @@ pub fn pairs_ascend(s: &[u16]) -> bool
 pub fn ranges_ok(s: &[u16]) -> bool
     ensures { result ≡ ranges_ok s.now }
 {
-    if s.len() % 3 != 0 {
-        return false;
-    }
-    if s.len() / 3 < 1 {
-        return false;
-    }
-    if s.len() / 3 > 4 {
-        return false;
-    }
-    ranges_ascend(s)
+    let n = s.len() / 3;
+    s.len() % 3 == 0 && (1..=4).contains(&n) && ascend(|k| range_at(s, k), n)
 }
 
 // 0 to 8 pairs.
 pub fn pairs_ok(s: &[u16]) -> bool
     ensures { result ≡ pairs_ok s.now }
 {
-    if s.len() % 2 != 0 {
-        return false;
-    }
-    if s.len() / 2 > 8 {
-        return false;
-    }
-    pairs_ascend(s)
+    let n = s.len() / 2;
+    s.len() % 2 == 0 && n <= 8 && ascend(|k| single_at(s, k), n)
 }
 
 pub fn accepted_pool(ranges: &[u16], pairs: &[u16]) -> Pool
     ensures { result ≡ pool_of ranges.now pairs.now }
 {
-    let four = [
-        range_at(ranges, 0),
-        range_at(ranges, 1),
-        range_at(ranges, 2),
-        range_at(ranges, 3),
-    ];
-    let eight = [
-        entry_at(pairs, 0),
-        entry_at(pairs, 1),
-        entry_at(pairs, 2),
-        entry_at(pairs, 3),
-        entry_at(pairs, 4),
-        entry_at(pairs, 5),
-        entry_at(pairs, 6),
-        entry_at(pairs, 7),
-    ];
     Pool {
-        ranges: four,
-        permanents: eight,
+        ranges: std::array::from_fn(|k| range_at(ranges, k)),
+        permanents: std::array::from_fn(|k| entry_at(pairs, k)),
     }
 }
 

@@ -1,9 +1,8 @@
 pub mod Free
 pub mod Once
+pub mod Crowd
+pub mod Used
 pub mod Marked
 pub mod Pass
 pub mod Together
-pub mod Used
-pub mod Crowd
-pub mod Near
 pub mod Walked

@@ -1,26 +1,32 @@
--- A pass over a list of which some elements are pairs: what its loop keeps.
---   many_most, many_all         at most as many pass a test as there are; as many where it always passes
---   Passed                      of the first i elements, the pairs are marked and counted
---   passed_none                 of none
---   passed_wide, passed_room    there is room for all marks; the count has room for one more
---   passed_skip, passed_on      one more, which is no pair; one more, which is one
---   passed_end                  of all
+-- A pass over a list, each of whose elements may be a pair: what its loop keeps.
+--   many_most, many_few, many_all         at most as many pass a test as there are; as many where it always passes
+--   Passed                      the first i elements are read
+--   passed_none, passed_more, passed_end    none; one more; all
+--   place_read, slot_read       what one place, or one slot, has is read
+--   passed_room                 the count has room for one more
 -- Over lists of any length. Assumes nothing.
 use Prim.Native.Nat.{ℕ, ◌+◌, ◌*◌, ◌≤◌, ◌<◌, zero-le}
-use mathlib.Core.Path.{◌≡◌, refl, sym, ◌∙◌}
-use mathlib.Core.Bool.{Bool, true, false, cond, ◌&&◌, ◌||◌, or-false, or_assoc}
+use mathlib.Core.Path.{◌≡◌, refl, sym}
+use mathlib.Core.Bool.{Bool, true, cond, not, ◌||◌, or-false, or_assoc}
+use Rattle.std.specs.Prelude.{Option, Some, None}
 use mathlib.Core.List.{List, [], ◌∷◌, ◌++◌}
 use native.Mathlib.Omega.{arith}
 use native.Mathlib.Numerals.{add-one}
-use lib.Dec.{eqb}
 use lib.ListN.{length, take, get_or}
 use lib.Seq.{take-suc, take_all, length-take-le}
 use Rattle.std.specs.List.{list_any}
+use Rattle.channels.specs.Channels.{is_pair}
+use Rattle.channels.specs.declared.Pair.{Pair}
 use Rattle.channels.specs.declared.Range.{Range}
 use Rattle.channels.proofs.Cases.{by_test}
-use Rattle.search.specs.Search.{how_many}
-use Rattle.search.specs.Marks.{near, all_marks, Added}
-use Rattle.search.proofs.Marked.{added_none, added_then, added_same}
+use Rattle.calls.specs.Calls.{empty_hold, is_live, pair_held, holds_pair, pair_of, entry_of}
+use Rattle.calls.specs.declared.Hold.{Hold}
+use Rattle.calls.specs.declared.Hold.TheVariants.{Empty, Live}
+use Rattle.calls.specs.declared.Slot.{Slot}
+use Rattle.search.specs.Search.{how_many, has_pair, there}
+use Rattle.search.specs.Marks.{near, Read}
+use Rattle.search.specs.declared.Marks.{Marks}
+use Rattle.search.proofs.Marked.{read_none, read_then, read_same}
 
 pub many_all : {A : Type 0} (xs : List A) → how_many (λ x. true) xs ≡ length xs
 many_all [] = refl
@@ -30,6 +36,9 @@ module _ {A : Type 0} (p : A → Bool) where
   pub many_most : (xs : List A) → how_many p xs ≤ length xs
   many_most [] = zero-le
   many_most (x ∷ xs) = let rest = many_most xs in by_test (p x) (λ e. rw e (omega arith)) (λ e. rw e (omega arith))
+
+  pub many_few : (xs : List A) (n : ℕ) → length xs ≡ n → how_many p xs ≤ n
+  many_few xs n h = let most = many_most xs in omega arith
 
   many_append : (xs ys : List A) → how_many p (xs ++ ys) ≡ how_many p xs + how_many p ys
   many_append [] ys = omega arith
@@ -46,60 +55,39 @@ module _ {A : Type 0} (p : A → Bool) where
     some_next : list_any p (take (i + 1) xs) ≡ (list_any p (take i xs) || p (get_or xs i d))
     some_next = rw (add-one i, take-suc xs i d h, some_append (take i xs) (get_or xs i d ∷ []), or-false (p (get_or xs i d)))
 
-module _ {A : Type 0} (has : A → Bool) (at : ℕ → ℕ → A → Bool) (rs : List Range) (n : ℕ) (xs : List A) (old : List Bool) (before : ℕ) where
-  pub record Passed (i : ℕ) (on : List Bool) (reads : ℕ) : Type 0 where
-    pub within : i ≤ length xs
-    pub full : length old ≡ all_marks
-    pub few : before ≤ near
-    pub count : reads ≡ before + how_many has (take i xs)
-    pub marks : Added rs n (λ p v. list_any (at p v) (take i xs)) old on
+module _ {A : Type 0} (has : A → Bool) (at : ℕ → ℕ → A → Bool) (rs : List Range) (xs : List A) (old : Marks) where
+  abbrev pub Passed : ℕ → Marks → Type 0
+  Passed i on = Read rs (λ p v. list_any (at p v) (take i xs)) (how_many has (take i xs)) old on
 
-  pub passed_none : length old ≡ all_marks → before ≤ near → Passed 0 old before
-  passed_none full few = record { within = zero-le; full = full; few = few; count = omega arith; marks = added_none rs n old }
+  pub passed_none : Passed 0 old
+  passed_none = read_none rs old
 
-  module _ (i : ℕ) (on : List Bool) (reads : ℕ) where
-    pub passed_wide : Passed i on reads → length on ≡ all_marks
-    passed_wide c = c.marks.wide ∙ c.full
+  pub passed_room : (i : ℕ) (on : Marks) → old.reads ≤ near → i ≤ length xs → i < near → Passed i on → on.reads < 3 * near
+  passed_room i on few within h c =
+      let count = c.count in
+      let most = many_most has (take i xs) in
+      let long = length-take-le i xs within in
+      omega arith
 
-    pub passed_room : i < near → Passed i on reads → reads < 2 * near
-    passed_room h c =
-        let count = c.count in
-        let few = c.few in
-        let most = many_most has (take i xs) in
-        let long = length-take-le i xs c.within in
-        omega arith
+  pub passed_more : (i : ℕ) (d : A) (on new : Marks) → i < length xs → Passed i on
+      → Read rs (λ p v. at p v (get_or xs i d)) (cond (has (get_or xs i d)) 1 0) on new → Passed (i + 1) new
+  passed_more i d on new h c one =
+      read_same rs (λ p v. sym (some_next (at p v) xs i d h)) (sym (many_next has xs i d h)) (read_then rs c one)
 
-    pub passed_skip : (d : A) → i < length xs → has (get_or xs i d) ≡ false → ((p v : ℕ) → at p v (get_or xs i d) ≡ false)
-        → Passed i on reads → Passed (i + 1) on reads
-    passed_skip d h none away c =
-        let count = c.count in
-        let next : how_many has (take (i + 1) xs) ≡ how_many has (take i xs) = many_next has xs i d h ∙ rw none (omega arith) in
-        record {
-          within = omega arith;
-          full = c.full;
-          few = c.few;
-          count = omega arith;
-          marks =
-              added_same rs n (λ p v. list_any (at p v) (take i xs)) (λ p v. list_any (at p v) (take (i + 1) xs)) old on
-              (λ p v. sym (some_next (at p v) xs i d h ∙ rw (away p v) (or-false (list_any (at p v) (take i xs))))) c.marks;
-        }
+  pub passed_end : (i : ℕ) (on : Marks) → length xs ≤ i → Passed i on → Read rs (λ p v. list_any (at p v) xs) (how_many has xs) old on
+  passed_end i on h c = let all = take_all i xs h in rw all at c
 
-    pub passed_on : (d : A) (q w : ℕ) (new : List Bool) (after : ℕ) → i < length xs → has (get_or xs i d) ≡ true
-        → ((p v : ℕ) → at p v (get_or xs i d) ≡ (eqb q p && eqb w v)) → after ≡ reads + 1 → Added rs n (λ p v. eqb q p && eqb w v) on new
-        → Passed i on reads → Passed (i + 1) new after
-    passed_on d q w new after h there is step add c =
-        let count = c.count in
-        let next : how_many has (take (i + 1) xs) ≡ how_many has (take i xs) + 1 = many_next has xs i d h ∙ rw there in
-        record {
-          within = omega arith;
-          full = c.full;
-          few = c.few;
-          count = omega arith;
-          marks =
-              added_same rs n (λ p v. list_any (at p v) (take i xs) || (eqb q p && eqb w v)) (λ p v. list_any (at p v) (take (i + 1) xs)) old new
-              (λ p v. sym (some_next (at p v) xs i d h ∙ rw (is p v)))
-              (added_then rs n (λ p v. list_any (at p v) (take i xs)) (λ p v. eqb q p && eqb w v) old on new c.marks add);
-        }
+-- what a place, or a slot, has is read
+module _ (rs : List Range) {old new : Marks} where
+  pub place_read : (e : Option Pair) → Read rs (λ p v. is_pair p v e) (there e) old new → Read rs (λ p v. is_pair p v e) (cond (has_pair e) 1 0) old new
+  place_read None r = r
+  place_read (Some c) r = r
 
-    pub passed_end : length xs ≤ i → Passed i on reads → (reads ≡ before + how_many has xs) × Added rs n (λ p v. list_any (at p v) xs) old on
-    passed_end h c = let all = take_all i xs h in (rw all at c.count, rw all at c.marks)
+  hold_read : (h : Hold) → Read rs (λ p v. is_pair p v (pair_of h)) (there (pair_of h)) old new
+      → Read rs (λ p v. pair_held p v h) (cond (not (empty_hold h)) 1 0) old new
+  hold_read Empty r = r
+  hold_read (Live c q) r = r
+
+  pub slot_read : (s : Slot) {e : Option Pair} → e ≡ entry_of s → Read rs (λ p v. is_pair p v e) (there e) old new
+      → Read rs (λ p v. holds_pair p v s) (cond (is_live s) 1 0) old new
+  slot_read s e r = hold_read s.hold (rw e at r)

@@ -1,17 +1,18 @@
 -- How many ranges there are up to the last that has a VCI.
---   used_here, used-before      the last range at hand has a VCI; it has none
---   used-none                   the ranges behind them have no pair
+--   used_next, used_past        one range more, which has a VCI; which has none
+--   used_most, used_few         there are no more than ranges
 --   used-spanning               there are none exactly if no range has a VCI
--- Over lists of any length. Assumes nothing.
+--   lowest_used                 the ranges behind them have no pair
+-- Assumes nothing.
 use Rattle.std.specs.Prelude.{None}
-use Prim.Native.Nat.{ℕ, suc, ◌+◌, ◌-◌, ◌≤◌, ◌<◌}
-use mathlib.Core.Path.{◌≡◌, refl, ap, ◌∙◌}
+use Prim.Native.Nat.{ℕ, ◌+◌, ◌-◌, ◌≤◌, ◌<◌}
+use mathlib.Core.Path.{◌≡◌, refl, sym, ◌∙◌}
 use mathlib.Core.Bool.{Bool, true, false}
 use mathlib.Core.List.{List, [], ◌∷◌, ◌++◌}
 use native.Mathlib.Omega.{arith}
 use native.Mathlib.Numerals.{add-one}
 use lib.Dec.{eqb}
-use lib.ListN.{length, take, drop}
+use lib.ListN.{length, take}
 use lib.Seq.{take-suc, length-take-le}
 use borrow.Author.Tests.{eqb-true, eqb-false, ne_eqb, leb-false, le-leb, lt-leb}
 use Rattle.channels.specs.Channels.{lowest}
@@ -31,21 +32,26 @@ used_unused : (rs : List Range) (r : Range) → spans r ≡ false → used (rs +
 used_unused [] r e = rw e
 used_unused (q ∷ rs) r e = rw (used_unused rs r e)
 
-module _ (rs : List Range) (n : ℕ) (some : 0 < n) (h : n ≤ length rs) where
-  last_taken : take n rs ≡ take (n - 1) rs ++ (range_at rs (n - 1) ∷ [])
-  last_taken =
-      let one : n ≡ suc (n - 1) = omega arith in
-      ap (λ (k : ℕ). take k rs) one ∙ take-suc rs (n - 1) (record { vpci = 0; first = 0; last = 0 }) (omega arith)
+module _ (rs : List Range) (k : ℕ) (h : k < length rs) where
+  pub used_next : (range_at rs k).first ≤ (range_at rs k).last → k + 1 ≡ used (take (k + 1) rs)
+  used_next e =
+      let long = length-take-le k rs (omega arith) in
+      let last = used_last (take k rs) (range_at rs k) (le-leb _ _ e) in
+      rw (add-one k, take-suc rs k (record { vpci = 0; first = 0; last = 0 }) h, last, long) (sym (add-one k))
 
-  pub used_here : (range_at rs (n - 1)).first ≤ (range_at rs (n - 1)).last → used rs ≡ used (take n rs) → n ≡ used rs
-  used_here e left =
-      let count = used_last (take (n - 1) rs) (range_at rs (n - 1)) (le-leb _ _ e) in
-      let long = length-take-le (n - 1) rs (omega arith) in
-      let same = left ∙ ap used last_taken ∙ count in
-      omega arith
+  pub used_past : (range_at rs k).last < (range_at rs k).first → used (take k rs) ≡ used (take (k + 1) rs)
+  used_past e = rw (add-one k, take-suc rs k (record { vpci = 0; first = 0; last = 0 }) h, used_unused (take k rs) (range_at rs k) (lt-leb _ _ e))
 
-  pub used-before : (range_at rs (n - 1)).last < (range_at rs (n - 1)).first → used rs ≡ used (take n rs) → used rs ≡ used (take (n - 1) rs)
-  used-before e left = left ∙ ap used last_taken ∙ used_unused (take (n - 1) rs) (range_at rs (n - 1)) (lt-leb _ _ e)
+pub used_most : (rs : List Range) → used rs ≤ length rs
+used_most [] = omega arith
+used_most (r ∷ rs) =
+    let rest = used_most rs in
+    by_test (spans r)
+    (λ s. rw s (omega arith))
+    (λ s. by_test (eqb (used rs) 0) (λ u. rw (s, u) (omega arith)) (λ u. rw (s, u) (omega arith)))
+
+pub used_few : (rs : List Range) (n : ℕ) → length rs ≡ n → length (take (used rs) rs) ≤ n
+used_few rs n h = let most = used_most rs in let long = length-take-le (used rs) rs most in omega arith
 
 pub used-spanning : (rs : List Range) → eqb (spanning rs) 0 ≡ eqb (used rs) 0
 used-spanning [] = refl
@@ -70,11 +76,11 @@ module _ (t : ℕ → ℕ → Bool) where
       rw none (none-used rs (eqb-true (used rs) 0 u)))
       (λ u. let z : used rs + 1 ≡ 0 = rw (s, u) at e in absurd (omega arith)))
 
-  pub used-none : (rs : List Range) → lowest t (drop (used rs) rs) ≡ None
-  used-none [] = refl
-  used-none (r ∷ rs) =
+  pub lowest_used : (rs : List Range) → lowest t rs ≡ lowest t (take (used rs) rs)
+  lowest_used [] = refl
+  lowest_used (r ∷ rs) =
       by_test (spans r)
-      (λ s. rw (s, add-one (used rs)) (used-none rs))
+      (λ s. rw (s, add-one (used rs), ← lowest_used rs))
       (λ s. by_test (eqb (used rs) 0)
       (λ u. rw (s, u) (none-used (r ∷ rs) (rw (s, u))))
-      (λ u. rw (s, u, add-one (used rs)) (used-none rs)))
+      (λ u. rw (s, u, add-one (used rs), ← lowest_used rs)))

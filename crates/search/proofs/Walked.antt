@@ -1,43 +1,45 @@
--- The walk over ranges and VCIs.
---   lowest_on, lowest_at        the range at hand has no free pair; it has one, the first that is not taken
---   passed_one                  the marks passed in a range are set: one more
---   Full                        all marks of a range are set
---   full_next                   of one range more
---   walked                      the ranges passed have no free pair
---   walked_found, walked_end    the range at hand has one; no range is left
+-- The walk over ranges and VCIs, over the marks alone.
+--   Told                        the marks from range k on say what a test says of the ranges' pairs
+--   walked                      then the lowest pair without a mark is the lowest that the test does not name
+--   told_read                   what all reads have set tells so
 --   unused_answer, all_answer   what `find_free` gives where no range has a VCI; where all pairs are taken at once
 --   answer                      and elsewhere
 -- Over lists of any length. Assumes nothing.
 use Rattle.std.specs.Prelude.{Option, Some, None}
+use Rattle.std.specs.List.{position_or_len}
+use Rattle.std.proofs.lemmas.Bool.{not-true, not-false}
+use Rattle.std.proofs.lemmas.List.{get_or-drop, get_or-take, length-drop, length-replicate}
+use Rattle.std.proofs.lemmas.List.Sums.{passes_at_first, fails_before_first}
 use Prim.Native.Nat.{ℕ, zero, suc, ◌+◌, ◌-◌, ◌*◌, ◌≤◌, ◌<◌}
-use mathlib.Core.Path.{◌≡◌, refl, sym, ap, ◌∙◌}
+use mathlib.Core.Path.{◌≡◌, refl, sym, ◌∙◌}
 use mathlib.Core.Logic.{◌≢◌}
-use mathlib.Core.Bool.{Bool, true, false, or-true}
-use mathlib.Core.List.{List}
+use mathlib.Core.Bool.{Bool, true, false, not, or-true}
+use mathlib.Core.List.{List, [], ◌∷◌}
 use native.Mathlib.Omega.{arith}
-use native.Mathlib.Numerals.{add-one}
-use lib.Dec.{eqb}
-use lib.ListN.{length, drop, get_or, replicate}
-use borrow.Author.Tests.{eqb-true, eqb-false, eq-eqb, ne_eqb}
-use Rattle.channels.specs.Channels.{pair, range_count, scan, lowest}
+use lib.Dec.{eqb, ltb}
+use lib.ListN.{length, take, drop, get_or, replicate, get_or-replicate}
+use lib.Seq.{length-take-le}
+use borrow.Author.Tests.{eqb-true, eqb-false, eq-eqb, ne_eqb, ltb-true, ltb-false}
+use Rattle.channels.specs.Channels.{pair, range_count, permanent_count, scan, lowest}
 use Rattle.channels.specs.declared.Pair.{Pair}
 use Rattle.channels.specs.declared.Range.{Range}
 use Rattle.channels.specs.declared.Pool.{Pool}
 use Rattle.channels.proofs.Cases.{by_test}
 use Rattle.channels.proofs.Lowest.{none-scan, none-lowest, lowest_same}
-use Rattle.channels.proofs.Walk.{lowest_here}
 use Rattle.pairs.specs.declared.Pairs.{Pairs}
 use Rattle.calls.specs.declared.Slot.{Slot}
 use Rattle.service.specs.Service.{is_all_taken}
 use Rattle.service.specs.declared.GlobalState.{GlobalState}
 use Rattle.service.specs.declared.OutOfService.{OutOfService}
 use Rattle.search.specs.Search.{taken_singly, taken, spanning, pairs_there, searched}
-use Rattle.search.specs.Marks.{near, all_marks, used, range_at, Added, near_last}
+use Rattle.search.specs.Marks.{Read, near, all_marks, used, range_at, width, free_in, at_offset, lowest_in}
 use Rattle.search.specs.declared.Finding.{Finding}
-use Rattle.search.proofs.Crowd.{Sparse}
+use Rattle.search.specs.declared.Marks.{Marks}
+use Rattle.pairs.specs.Pairs.{room}
+use Rattle.slots.specs.Slots.{slot_count}
+use Rattle.search.proofs.Crowd.{Sparse, sparse}
 use Rattle.search.proofs.Free.{all_taken, singly}
-use Rattle.search.proofs.Near.{near_within, near-taken, near_passed}
-use Rattle.search.proofs.Used.{used-none, used-spanning}
+use Rattle.search.proofs.Used.{used_few, used-spanning, lowest_used}
 
 module _ (t : ℕ → ℕ → Bool) (q : ℕ) (rest : Option Pair) where
   scan-first : (n w v : ℕ) → w ≤ v → v < w + n → ((u : ℕ) → w ≤ u → u < v → t q u ≡ true) → t q v ≡ false → scan t q n w rest ≡ Some (pair q v)
@@ -47,82 +49,89 @@ module _ (t : ℕ → ℕ → Bool) (q : ℕ) (rest : Option Pair) where
       (λ e. rw (eqb-true w v e, free))
       (λ e. let past = eqb-false w v e in rw (all w (omega arith) (omega arith)) (scan-first n (w + 1) v (omega arith) (omega arith) (λ u from to. all u (omega arith) to) free))
 
-module _ (t : ℕ → ℕ → Bool) (rs : List Range) (k : ℕ) where
-  lowest_on : k < length rs
-      → ((w : ℕ) → (range_at rs k).first ≤ w → w < (range_at rs k).first + (((range_at rs k).last + 1) - (range_at rs k).first) → t (range_at rs k).vpci w ≡ true)
-      → lowest t rs ≡ lowest t (drop k rs) → lowest t rs ≡ lowest t (drop (k + 1) rs)
-  lowest_on h all left =
-      let r = range_at rs k in
-      left ∙ lowest_here t rs k h ∙ none-scan t r.vpci (lowest t (drop (k + 1) rs)) ((r.last + 1) - r.first) r.first all
+width_most : (r : Range) → (width r ≤ near) × (width r ≤ (r.last + 1) - r.first)
+width_most r =
+    by_test (ltb ((r.last + 1) - r.first) near)
+    (λ e. let h = ltb-true ((r.last + 1) - r.first) near e in rw e (omega arith, omega arith))
+    (λ e. let h = ltb-false ((r.last + 1) - r.first) near e in rw e (omega arith, omega arith))
 
-  lowest_at : (v : ℕ) → k < length rs → (range_at rs k).first ≤ v → v ≤ (range_at rs k).last
-      → ((w : ℕ) → (range_at rs k).first ≤ w → w < v → t (range_at rs k).vpci w ≡ true) → t (range_at rs k).vpci v ≡ false
-      → lowest t rs ≡ lowest t (drop k rs) → lowest t rs ≡ Some (pair (range_at rs k).vpci v)
-  lowest_at v h low high all free left =
-      let r = range_at rs k in
-      left ∙ lowest_here t rs k h ∙ scan-first t r.vpci (lowest t (drop (k + 1) rs)) ((r.last + 1) - r.first) r.first v low (omega arith) all free
+width_all : (r : Range) → width r < near → width r ≡ (r.last + 1) - r.first
+width_all r h = by_test (ltb ((r.last + 1) - r.first) near) (λ e. rw e) (λ e. let same : width r ≡ near = rw e in absurd (omega arith))
 
-pub passed_one : (on : List Bool) (k first v : ℕ) → first ≤ v → ((o : ℕ) → o < v - first → get_or on (k * near + o) false ≡ true)
-    → get_or on (k * near + (v - first)) false ≡ true → (o : ℕ) → o < (v + 1) - first → get_or on (k * near + o) false ≡ true
-passed_one on k first v low all here o h =
-    by_test (eqb o (v - first)) (λ e. rw (eqb-true o (v - first) e) here) (λ e. let past = eqb-false o (v - first) e in all o (omega arith))
+module _ (t : ℕ → ℕ → Bool) (few : Sparse t) where
+  -- one range, over its marks
+  module _ (r : Range) (ms : List Bool) (rest : Option Pair) (long : near ≤ length ms) (told : (o : ℕ) → o < near → get_or ms o false ≡ t r.vpci (r.first + o)) where
+    seen : (o : ℕ) → o < width r → get_or (take (width r) ms) o false ≡ t r.vpci (r.first + o)
+    seen o h = let most = (width_most r).0 in get_or-take (width r) ms o false h ∙ told o (omega arith)
 
-pub record Full (rs : List Range) (on : List Bool) (k : ℕ) : Type 0 where
-  pub fits : near_last (range_at rs k) ≤ 65535
-  pub all_on : (o : ℕ) → (range_at rs k).first + o ≤ near_last (range_at rs k) → get_or on (k * near + o) false ≡ true
+    row : at_offset r (free_in r ms) rest ≡ scan t r.vpci ((r.last + 1) - r.first) r.first rest
+    row =
+        let xs = take (width r) ms in
+        let n = position_or_len not (take (width r) ms) in
+        let narrow = (width_most r).0 in
+        let within = (width_most r).1 in
+        let count = length-take-le (width r) ms (omega arith) in
+        let passed : (u : ℕ) → r.first ≤ u → u < r.first + n → u < r.first + width r → t r.vpci u ≡ true =
+        λ u from to inside.
+        let place : r.first + (u - r.first) ≡ u = omega arith in
+        rw place at (sym (seen (u - r.first) (omega arith)) ∙ not-false _ (fails_before_first not xs (u - r.first) false (omega arith))) in
+        by_test (ltb n (length xs))
+        (λ e.
+        let h = ltb-true n (length xs) e in
+        rw e
+        (sym (scan-first t r.vpci rest ((r.last + 1) - r.first) r.first (r.first + n) (omega arith) (omega arith) (λ u from to. passed u from to (omega arith))
+        (sym (seen n (omega arith)) ∙ not-true _ (passes_at_first not xs false h)))))
+        (λ e.
+        let h = ltb-false n (length xs) e in
+        by_test (ltb (width r) near)
+        (λ s.
+        let all = width_all r (ltb-true (width r) near s) in
+        rw e (sym (none-scan t r.vpci rest ((r.last + 1) - r.first) r.first (λ u from to. passed u from (omega arith) (omega arith)))))
+        (λ s.
+        let full = ltb-false (width r) near s in
+        absurd (few r.vpci r.first (λ u from to. passed u from (omega arith) (omega arith)))))
 
-pub full_next : (rs : List Range) (on : List Bool) (k : ℕ) → ((j : ℕ) → j < k → Full rs on j) → Full rs on k → (j : ℕ) → j < k + 1 → Full rs on j
-full_next rs on k all here j h = by_test (eqb j k) (λ e. rw (eqb-true j k e) here) (λ e. let past = eqb-false j k e in all j (omega arith))
-
-module _ (t : ℕ → ℕ → Bool) (few : Sparse t) (rs : List Range) (n : ℕ) (on : List Bool) (most : n ≤ range_count) (long : length rs ≡ range_count)
-    (a : Added rs n t (replicate all_marks false) on) where
-  pub walked : (k : ℕ) → k ≤ n → ((j : ℕ) → j < k → Full rs on j) → lowest t rs ≡ lowest t (drop k rs)
-  walked zero h full = refl
-  walked (suc k) h full =
-      let here = full k (omega arith) in
-      let r = range_at rs k in
-      let fits = here.fits in
-      let end : near_last r < near_last r + 1 = omega arith in
-      rw (sym (add-one k))
-      (lowest_on t rs k (omega arith)
-      (near_passed t few r refl end
-      (λ w low high.
-      let place : r.first + (w - r.first) ≡ w = omega arith in
-      sym (near-taken t rs n k on a (omega arith) most low (omega arith) refl fits) ∙ here.all_on (w - r.first) (omega arith)))
-      (walked k (omega arith) (λ j l. full j (omega arith))))
-
-  pub walked_found : (k : ℕ) {v last : ℕ} → k < n → ((j : ℕ) → j < k → Full rs on j) → last ≡ near_last (range_at rs k) → last ≤ 65535
-      → (range_at rs k).first ≤ v → v ≤ last → ((o : ℕ) → o < v - (range_at rs k).first → get_or on (k * near + o) false ≡ true)
-      → get_or on (k * near + (v - (range_at rs k).first)) false ≡ false → Some (pair (range_at rs k).vpci v) ≡ lowest t rs
-  walked_found k {v} {last} h full at fits low high before free =
-      let r = range_at rs k in
-      let mark : (w : ℕ) → r.first ≤ w → w ≤ v → get_or on (k * near + (w - r.first)) false ≡ t r.vpci w =
-      λ w from to. near-taken t rs n k on a h most from (omega arith) at fits in
-      sym (lowest_at t rs k v (omega arith) low (near_within r high at)
-      (λ w from to. sym (mark w from (omega arith)) ∙ before (w - r.first) (omega arith))
-      (sym (mark v low (omega arith)) ∙ free) (walked k (omega arith) full))
-
-  pub walked_end : {k : ℕ} → n ≡ used rs → k ≤ n → n ≤ k → ((j : ℕ) → j < k → Full rs on j) → None ≡ lowest t rs
-  walked_end {k} e h end full =
-      let last : k ≡ used rs = omega arith in
-      sym (walked k h full ∙ ap (λ (i : ℕ). lowest t (drop i rs)) last ∙ used-none t rs)
+  pub walked : (on : List Bool) (k : ℕ) (rs : List Range) → length on ≡ all_marks → k + length rs ≤ range_count
+      → ((j o : ℕ) → j < length rs → o < near → get_or on ((k + j) * near + o) false ≡ t (range_at rs j).vpci ((range_at rs j).first + o))
+      → lowest_in on k rs ≡ lowest t rs
+  walked on k [] long most told = refl
+  walked on k (r ∷ rs) long most told =
+      let rest = walked on (k + 1) rs long (omega arith) (λ j o low h. let next : (k + 1) + j ≡ k + suc j = omega arith in rw next (told (suc j) o (omega arith) h)) in
+      let behind = length-drop (k * near) on in
+      rw rest
+      (row r (drop (k * near) on) (lowest t rs) (omega arith)
+      (λ o h. get_or-drop (k * near) on o false ∙ (let here : k + 0 ≡ k = omega arith in rw here at (told 0 o (omega arith) h))))
 
 module _ (ss : List Slot) (ds : Pairs) (out : OutOfService) (g : GlobalState) (pool : Pool) where
   abbrev T : ℕ → ℕ → Bool
   T = taken ss ds out g pool.permanents
 
-  pub unused_answer : 0 ≡ used pool.ranges → ◌≡◌ {A = Finding} (record { found = None; reads = 0 }) (searched ss ds out g pool)
-  unused_answer e =
-      let none : lowest T pool.ranges ≡ None = ap (λ (i : ℕ). lowest T (drop i pool.ranges)) e ∙ used-none T pool.ranges in
-      rw (none, used-spanning pool.ranges, eq-eqb (used pool.ranges) 0 (sym e))
+  -- the ranges up to the last that has a VCI
+  abbrev U : List Range
+  U = take (used pool.ranges) pool.ranges
+
+  pub unused_answer : used pool.ranges ≡ 0 → ◌≡◌ {A = Finding} (record { found = None; reads = 0 }) (searched ss ds out g pool)
+  unused_answer none =
+      let found : lowest T pool.ranges ≡ None = lowest_used T pool.ranges ∙ rw none in
+      rw (found, used-spanning pool.ranges, eq-eqb (used pool.ranges) 0 none)
 
   -- all pairs at once
   pub all_answer : is_all_taken out g ≡ true → ◌≡◌ {A = Finding} (record { found = None; reads = 0 }) (searched ss ds out g pool)
   all_answer e = rw (none-lowest T pool.ranges (λ p v h. all_taken ss ds out g pool.permanents e p v), e, or-true (eqb (spanning pool.ranges) 0))
 
-  pub answer : {c : Option Pair} {n reads : ℕ} → is_all_taken out g ≡ false → n ≡ used pool.ranges → n ≢ 0
-      → c ≡ lowest (taken_singly ss ds out g pool.permanents) pool.ranges → reads ≡ pairs_there ss ds out g pool.permanents
-      → ◌≡◌ {A = Finding} (record { found = c; reads = reads }) (searched ss ds out g pool)
-  answer single e some found count =
-      let same = lowest_same (taken_singly ss ds out g pool.permanents) T pool.ranges (singly ss ds out g pool.permanents single) in
-      rw (found ∙ same, count, used-spanning pool.ranges, ne_eqb (used pool.ranges) 0 (λ z. some (e ∙ z)), single)
+  pub answer : length ss ≡ slot_count → length ds.numbers ≡ room → length out.pairs.numbers ≡ room → length pool.permanents ≡ permanent_count → length pool.ranges ≡ range_count
+      → is_all_taken out g ≡ false → used pool.ranges ≢ 0 → {c : Option Pair} {old new : Marks} → old ≡ record { on = replicate all_marks false; reads = 0 }
+      → Read U (taken_singly ss ds out g pool.permanents) (pairs_there ss ds out g pool.permanents) old new → c ≡ lowest_in new.on 0 U
+      → ◌≡◌ {A = Finding} (record { found = c; reads = new.reads }) (searched ss ds out g pool)
+  answer s d o e four single some {c} {old} {new} fresh read found =
+      let most = used_few pool.ranges range_count four in
+      let by = taken_singly ss ds out g pool.permanents in
+      let wide : length new.on ≡ all_marks = read.wide ∙ rw fresh (length-replicate all_marks false) in
+      let told : (j i : ℕ) → j < length U → i < near → get_or new.on ((0 + j) * near + i) false ≡ by (range_at U j).vpci ((range_at U j).first + i) =
+      λ j i low h.
+      let place : 0 + j ≡ j = omega arith in
+      rw place (read.mark j i low h ∙ rw fresh (rw (get_or-replicate all_marks (j * near + i) false false (omega arith)))) in
+      let same = lowest_same by T pool.ranges (singly ss ds out g pool.permanents single) in
+      let count : new.reads ≡ pairs_there ss ds out g pool.permanents = read.count ∙ rw fresh (omega arith) in
+      let none : eqb (used pool.ranges) 0 ≡ false = ne_eqb (used pool.ranges) 0 some in
+      rw (found ∙ walked by (sparse ss ds out g pool.permanents s d o e) new.on 0 U wide (omega arith) told ∙ sym (lowest_used by pool.ranges) ∙ same, count, used-spanning pool.ranges, none, single)

@@ -1,35 +1,34 @@
 // The search for the lowest free pair, and a count of the pairs that it reads.
 //   Finding, find_free     the lowest free permitted pair by VPCI and then VCI, and how many pairs were read to find it
-//   ranges_used            how many ranges there are up to the last that has a VCI
-//   mark_in                sets the mark of a pair in one range
-//   mark_pair              a pair that was read: the count is stepped, and its marks are set; mark_number: by its number
-//   mark_slots, mark_permanents, mark_listed, mark_request     hand each pair that is there to `mark_pair`; mark_pairs: all
-//   near_last              the last VCI of a range that has a mark
-// One mark stands for one of the NEAR first VCIs of a range: if its pair is taken. Those of range k begin at k times NEAR.
-// `find_free` has no `requires`; the others ask for room for all marks, and for a count that is not near its end.
+//   Ranges, ranges_used    the ranges that a search looks at: those up to the last that has a VCI
+//   pair_of                the pair of a number
+//   offset_in              which mark of a range a pair has
+//   free_in                the first mark of a range that is not set
+//   Marks                  a mark for each of the NEAR first VCIs of each range, if its pair is taken; how many pairs were read
+//   Marks::read            a pair is read: it is counted, and its marks are set
+//   Marks::read_place, read_slots, read_permanents, read_listed, read_request     each pair that is there is read
+//   Marks::lowest_free     the lowest pair whose mark is not set
+// `find_free` has no `requires`; those of `Marks` ask for a count that is not near its end.
 // Assumes nothing.
 #![tactic(auto)]
 
-ghost use Rattle.std.specs.Prelude.{◌≡◌, ◌&&◌, ◌+◌, ◌*◌, ◌≤◌, ◌<◌, eqb, length};
+ghost use Rattle.std.specs.Prelude.{◌≡◌, ◌&&◌, ◌+◌, ◌*◌, ◌/◌, ◌%◌, ◌≤◌, ◌<◌, eqb, length, take, IfSome};
 ghost use Rattle.std.specs.List.{list_any};
-ghost use Rattle.channels.specs.Channels.{range_count, is_pair, among};
-ghost use Rattle.pairs.specs.Pairs.{is_number, in_pairs, size};
+ghost use Rattle.channels.specs.Channels.{pair, range_count, is_pair, among};
+ghost use Rattle.pairs.specs.Pairs.{room, is_number};
 ghost use Rattle.calls.specs.Calls.{is_live, holds_pair};
 ghost use Rattle.service.specs.Service.{one_pair};
 ghost use Rattle.search.specs.Search.{taken_singly, how_many, has_pair, there, pairs_there, searched};
-ghost use Rattle.search.specs.Marks.{near, all_marks, used, mark_in, near_last, Added};
+ghost use Rattle.search.specs.Marks.{near, used, looked, offset_in, Read, free_in, lowest_in};
 
-use calls::Hold;
+use calls::Slot;
 use channels::{Named, PERMANENTS, Pair, Pool, RANGES, Range};
-use pairs::{Pairs, number};
+use pairs::Pairs;
 use service::{GlobalState, OutOfService};
 use slots::{SLOTS, Slots};
 
 // One more than there can be pairs: of so many VCIs one is free.
 const NEAR: usize = 170;
-
-// The marks of all ranges.
-const MARKS: usize = 680;
 
 // The lowest free pair, and how many pairs were read to find it.
 #[derive(Clone, Copy)]
@@ -38,178 +37,150 @@ pub struct Finding {
     pub reads: u32,
 }
 
+// Those of range k begin at k times NEAR.
+#[derive(Clone, Copy)]
+struct Marks {
+    on: [bool; RANGES * NEAR],
+    reads: u32,
+}
+
+// The ranges that a search looks at: the first `used` of them.
+#[derive(Clone, Copy)]
+struct Ranges {
+    all: [Range; RANGES],
+    used: usize,
+}
+
 // A range without a VCI counts only before one that has some.
-fn ranges_used(pool: Pool) -> usize
-    ensures value { result ≡ used pool.ranges }
+fn ranges_used(ranges: &[Range; RANGES]) -> usize
+    ensures value { result ≡ used ranges.now }
     ensures within { result ≤ range_count }
 {
-    let mut n = RANGES;
-    while 0 < n {
-        let range = pool.ranges[n - 1];
+    let mut n = 0;
+    for (k, range) in ranges.iter().enumerate() {
         if range.first <= range.last {
-            return n;
+            n = k + 1;
         }
-        n -= 1;
     }
-    0
+    n
 }
 
-// Sets the mark of a pair in range k, if it has one there.
-fn mark_in(range: Range, k: usize, pair: u32, on: &mut [bool])
-    requires { (k < range_count) × (length on.old ≡ all_marks) }
-    ensures { on.new ≡ mark_in range k pair on.old }
+fn pair_of(number: u32) -> Pair
+    ensures { result ≡ pair (number / 65536) (number % 65536) }
 {
-    let first = number(Pair {
-        vpci: range.vpci,
-        vci: range.first,
-    });
-    if pair < first {
-        return;
-    }
-    let offset = (pair - first) as usize;
-    if offset < NEAR {
-        on[k * NEAR + offset] = true;
+    Pair {
+        vpci: (number / 65536) as u16,
+        vci: (number % 65536) as u16,
     }
 }
 
-// A pair that was read: the count is stepped, and its mark is set in each of the first n ranges.
-fn mark_pair(pool: Pool, n: usize, pair: Pair, on: &mut [bool], reads: &mut u32)
-    requires { (n ≤ range_count) × (length on.old ≡ all_marks) × (reads.old < 3 * near) }
-    ensures count { reads.new ≡ reads.old + 1 }
-    ensures marks { Added pool.ranges n (λ p v. eqb pair.vpci p && eqb pair.vci v) on.old on.new }
+// The number of a pair's mark in a range, if it has one there.
+fn offset_in(range: Range, pair: Pair) -> Option<usize>
+    ensures { result ≡ offset_in range pair }
 {
-    *reads += 1;
-    let number = number(pair);
-    mark_in(pool.ranges[0], 0, number, on);
-    if n < 2 {
-        return;
+    if range.vpci != pair.vpci {
+        return None;
     }
-    mark_in(pool.ranges[1], 1, number, on);
-    if n < 3 {
-        return;
+    let offset = pair.vci.checked_sub(range.first)? as usize;
+    (offset < NEAR).then_some(offset)
+}
+
+// The number of the first mark of a range that is not set.
+fn free_in(range: Range, on: &[bool]) -> Option<usize>
+    requires { near ≤ length on.now }
+    ensures value { result ≡ free_in range on.now }
+    ensures within { IfSome result (λ o. range.first + o < 65536) }
+{
+    let width = (range.last as usize + 1).saturating_sub(range.first as usize);
+    on[..width.min(NEAR)].iter().position(|taken| !*taken)
+}
+
+impl Marks {
+    // The count is stepped, and the pair's mark is set in each range.
+    fn read(&mut self, ranges: &Ranges, pair: Pair)
+        requires { self.old.reads < 3 * near }
+        ensures { Read (looked ranges.now) (λ p v. eqb pair.vpci p && eqb pair.vci v) 1 self.old self.new }
+    {
+        self.reads += 1;
+        // Over all four, left by `break`: a loop over the slice of those in use costs a search of 32 calls half as much again.
+        for (k, range) in ranges.all.iter().enumerate() {
+            if k == ranges.used {
+                break;
+            }
+            if let Some(offset) = offset_in(*range, pair) {
+                self.on[k * NEAR + offset] = true;
+            }
+        }
     }
-    mark_in(pool.ranges[2], 2, number, on);
-    if n < 4 {
-        return;
+
+    // The pair of a place, if there is one.
+    fn read_place(&mut self, ranges: &Ranges, place: Option<Pair>)
+        requires { self.old.reads < 3 * near }
+        ensures { Read (looked ranges.now) (λ p v. is_pair p v place) (there place) self.old self.new }
+    {
+        if let Some(pair) = place {
+            self.read(ranges, pair);
+        }
     }
-    mark_in(pool.ranges[3], 3, number, on);
-}
 
-// The same, of a pair by its number.
-fn mark_number(pool: Pool, n: usize, pair: u32, on: &mut [bool], reads: &mut u32)
-    requires { (n ≤ range_count) × (length on.old ≡ all_marks) × (reads.old < 2 * near) }
-    ensures count { reads.new ≡ reads.old + 1 }
-    ensures marks { Added pool.ranges n (λ p v. is_number p v pair) on.old on.new }
-{
-    let pair = Pair {
-        vpci: (pair / 65536) as u16,
-        vci: (pair % 65536) as u16,
-    };
-    mark_pair(pool, n, pair, on, reads);
-}
-
-// Reads the pair of each call.
-fn mark_slots(pool: Pool, n: usize, slots: Slots, on: &mut [bool], reads: &mut u32)
-    requires { (n ≤ range_count) × (length on.old ≡ all_marks) × (reads.old ≤ near) }
-    ensures count { reads.new ≡ reads.old + how_many is_live slots.all }
-    ensures marks { Added pool.ranges n (λ p v. list_any (holds_pair p v) slots.all) on.old on.new }
-{
-    let mut i: usize = 0;
-    while i < SLOTS {
-        let slot = slots.all[i];
-        i += 1;
-        let hold = slot.hold;
-        let Hold::Live(call, _) = hold else {
-            continue;
-        };
-        mark_pair(pool, n, call.pair, on, reads);
+    // The pair of each call.
+    fn read_slots(&mut self, ranges: &Ranges, slots: &[Slot; SLOTS])
+        requires { self.old.reads ≤ near }
+        ensures { Read (looked ranges.now) (λ p v. list_any (holds_pair p v) slots.now) (how_many is_live slots.now) self.old self.new }
+    {
+        for slot in slots {
+            self.read_place(ranges, slot.entry());
+        }
     }
-}
 
-// Reads each permanent pair.
-fn mark_permanents(pool: Pool, n: usize, on: &mut [bool], reads: &mut u32)
-    requires { (n ≤ range_count) × (length on.old ≡ all_marks) × (reads.old ≤ near) }
-    ensures count { reads.new ≡ reads.old + how_many has_pair pool.permanents }
-    ensures marks { Added pool.ranges n (λ p v. among p v pool.permanents) on.old on.new }
-{
-    let mut i: usize = 0;
-    while i < PERMANENTS {
-        let place = pool.permanents[i];
-        i += 1;
-        let Some(pair) = place else {
-            continue;
-        };
-        mark_pair(pool, n, pair, on, reads);
+    fn read_permanents(&mut self, ranges: &Ranges, permanents: &[Option<Pair>; PERMANENTS])
+        requires { self.old.reads ≤ near }
+        ensures { Read (looked ranges.now) (λ p v. among p v permanents.now) (how_many has_pair permanents.now) self.old self.new }
+    {
+        for place in permanents {
+            self.read_place(ranges, *place);
+        }
     }
-}
 
-// Reads each pair of a list: those in doubt, and those out of service.
-fn mark_listed(pool: Pool, n: usize, pairs: Pairs, on: &mut [bool], reads: &mut u32)
-    requires { (n ≤ range_count) × (length on.old ≡ all_marks) × (reads.old ≤ near) }
-    ensures count { reads.new ≡ reads.old + size pairs }
-    ensures marks { Added pool.ranges n (λ p v. in_pairs pairs p v) on.old on.new }
-{
-    let size = pairs.size();
-    let mut i: usize = 0;
-    while i < size {
-        let pair = pairs.numbers[i];
-        mark_number(pool, n, pair, on, reads);
-        i += 1;
+    // Each pair of a list: those in doubt, and those out of service.
+    fn read_listed(&mut self, ranges: &Ranges, numbers: &[u32])
+        requires { (length numbers.now ≤ room) × (self.old.reads ≤ near) }
+        ensures { Read (looked ranges.now) (λ p v. list_any (is_number p v) numbers.now) (length numbers.now) self.old self.new }
+    {
+        for number in numbers {
+            self.read(ranges, pair_of(*number));
+        }
+    }
+
+    // The one pair that a RESTART of ours names.
+    fn read_request(&mut self, ranges: &Ranges, state: GlobalState)
+        requires { self.old.reads ≤ near }
+        ensures { Read (looked ranges.now) (λ p v. is_pair p v (one_pair state)) (there (one_pair state)) self.old self.new }
+    {
+        if let GlobalState::RestartRequest(Named::One(pair), _, _) = state {
+            self.read(ranges, pair);
+        }
+    }
+
+    // The lowest pair of the ranges that has no mark.
+    fn lowest_free(&self, ranges: &Ranges) -> Option<Pair>
+        requires { ranges.now.used ≤ range_count }
+        ensures { result ≡ lowest_in self.now.on 0 (looked ranges.now) }
+    {
+        for (k, range) in ranges.all[..ranges.used].iter().enumerate() {
+            if let Some(offset) = free_in(*range, &self.on[k * NEAR..]) {
+                return Some(Pair {
+                    vpci: range.vpci,
+                    vci: range.first + offset as u16,
+                });
+            }
+        }
+        None
     }
 }
 
-// Reads the one pair that a RESTART of ours names.
-fn mark_request(pool: Pool, n: usize, state: GlobalState, on: &mut [bool], reads: &mut u32)
-    requires { (n ≤ range_count) × (length on.old ≡ all_marks) × (reads.old ≤ near) }
-    ensures count { reads.new ≡ reads.old + there (one_pair state) }
-    ensures marks { Added pool.ranges n (λ p v. is_pair p v (one_pair state)) on.old on.new }
-{
-    let GlobalState::RestartRequest(named, _, _) = state else {
-        return;
-    };
-    let Named::One(pair) = named else {
-        return;
-    };
-    mark_pair(pool, n, pair, on, reads);
-}
-
-// Reads each pair once.
-fn mark_pairs(
-    pool: Pool,
-    n: usize,
-    slots: Slots,
-    doubts: Pairs,
-    out: OutOfService,
-    state: GlobalState,
-    on: &mut [bool],
-    reads: &mut u32,
-)
-    requires { (n ≤ range_count) × (length on.old ≡ all_marks) × (reads.old ≡ 0) }
-    ensures count { reads.new ≡ pairs_there slots.all doubts out state pool.permanents }
-    ensures marks { Added pool.ranges n (taken_singly slots.all doubts out state pool.permanents) on.old on.new }
-{
-    mark_slots(pool, n, slots, on, reads);
-    mark_permanents(pool, n, on, reads);
-    mark_request(pool, n, state, on, reads);
-    mark_listed(pool, n, doubts, on, reads);
-    mark_listed(pool, n, out.pairs, on, reads);
-}
-
-// The last VCI of a range that has a mark.
-fn near_last(range: Range) -> u32
-    ensures value { result ≡ near_last range }
-    ensures within { result ≤ 65535 }
-{
-    let near = range.first as u32 + 169;
-    let last = range.last as u32;
-    if near < last {
-        return near;
-    }
-    last
-}
-
-// Each pair is read once; then comes the walk over ranges and VCIs, over the marks alone, left by its label at the first
-// free pair. Where no range has a VCI, or all pairs are taken at once, no pair is read.
+// Each pair is read once; then comes the walk over ranges and VCIs, over the marks alone, up to the first free pair. Where
+// no range has a VCI, or all pairs are taken at once, no pair is read.
 pub fn find_free(
     pool: Pool,
     slots: Slots,
@@ -219,43 +190,27 @@ pub fn find_free(
 ) -> Finding
     ensures { result ≡ searched slots.all doubts out state pool }
 {
-    let mut found = None;
-    let mut reads: u32 = 0;
-    let n = ranges_used(pool);
-    if n == 0 {
+    let ranges = Ranges {
+        all: pool.ranges,
+        used: ranges_used(&pool.ranges),
+    };
+    if ranges.used == 0 || service::is_all_taken(out, state) {
         return Finding {
-            found: found,
-            reads: reads,
+            found: None,
+            reads: 0,
         };
     }
-    if service::is_all_taken(out, state) {
-        return Finding {
-            found: found,
-            reads: reads,
-        };
-    }
-    let mut on = [false; MARKS];
-    mark_pairs(pool, n, slots, doubts, out, state, &mut on, &mut reads);
-    let mut k: usize = 0;
-    'search: while k < n {
-        let range = pool.ranges[k];
-        let first = range.first as u32;
-        let last = near_last(range);
-        let mut v = first;
-        while v <= last {
-            if !on[k * NEAR + (v - first) as usize] {
-                found = Some(Pair {
-                    vpci: range.vpci,
-                    vci: v as u16,
-                });
-                break 'search;
-            }
-            v += 1;
-        }
-        k += 1;
-    }
+    let mut marks = Marks {
+        on: [false; RANGES * NEAR],
+        reads: 0,
+    };
+    marks.read_slots(&ranges, &slots.all);
+    marks.read_permanents(&ranges, &pool.permanents);
+    marks.read_request(&ranges, state);
+    marks.read_listed(&ranges, doubts.listed());
+    marks.read_listed(&ranges, out.pairs.listed());
     Finding {
-        found: found,
-        reads: reads,
+        found: marks.lowest_free(&ranges),
+        reads: marks.reads,
     }
 }

@@ -1,66 +1,79 @@
--- `find_free` meets its contract. The invariants: all marks of the ranges passed are set; and, in a range, those of the VCIs passed.
-use borrow.Author.Rules.{rules}
-use native.Mathlib.Omega.{arith}
-use mathlib.Core.Path.{refl, sym, ◌∙◌}
-use Rattle.search.specs.Marks.{range_at}
-use Rattle.search.proofs.Near.{near_offset}
-use Rattle.search.specs.Search.{taken_singly}
-use Rattle.search.proofs.Crowd.{sparse}
-use Rattle.search.proofs.Walked.{passed_one, full_next, walked_found, walked_end, unused_answer, all_answer, answer}
+-- `find_free`: what was read is what there is, and the walk finds the lowest pair that is free.
+use Rattle.std.proofs.Common.{take, ◌≡◌, length, refl, sym, ◌∙◌, arith, rules}
+use Rattle.channels.specs.Channels.{permanent_count}
+use Rattle.pairs.specs.Pairs.{room}
+use Rattle.calls.specs.Calls.{is_live}
+use Rattle.service.specs.Service.{one_pair}
+use Rattle.slots.specs.Slots.{slot_count}
+use Rattle.search.specs.Search.{has_pair}
+use Rattle.search.proofs.Marked.{read_then}
+use Rattle.search.proofs.Pass.{many_few}
+use Rattle.search.proofs.Together.{together, there_most, listed_few}
+use Rattle.search.proofs.Walked.{unused_answer, all_answer, answer}
+use Rattle.search.proofs.find_free.Goals.{then-ranges-eq0-via-then-ranges-eq0, then-ranges-eq0-via-else-ranges-eq0+then-is_all_taken}
 use Rattle.search.proofs.find_free.Goals as goal
 
-pub returns-then-n-eq0 : goal.returns-then-n-eq0
-returns-then-n-eq0 c = unused_answer c.args.slots.all c.args.doubts c.args.out c.args.state c.args.pool (let e = c.ranges_used-n.ensures.value in omega arith)
+pub returns-then-ranges-eq0 : goal.returns-then-ranges-eq0
+returns-then-ranges-eq0 c =
+    let a = c.args in
+    elim c.then-ranges-eq0.branch [
+      | then-ranges-eq0-via-then-ranges-eq0 w ↦ unused_answer a.slots.all a.doubts a.out a.state a.pool (sym c.ranges_used.ensures.value ∙ w.if-ranges-eq0.true)
+      | then-ranges-eq0-via-else-ranges-eq0+then-is_all_taken w ↦
+          all_answer a.slots.all a.doubts a.out a.state a.pool (sym w.is_all_taken.ensures ∙ w.if-is_all_taken.true)
+    ]
 
-pub returns-then-is_all_taken : goal.returns-then-is_all_taken
-returns-then-is_all_taken c = all_answer c.args.slots.all c.args.doubts c.args.out c.args.state c.args.pool (sym c.is_all_taken.ensures ∙ c.if-is_all_taken.true)
-
-pub mark_pairs-requires : goal.mark_pairs-requires
-mark_pairs-requires c = (c.ranges_used-n.ensures.within, refl, refl)
-
-pub search-init : goal.search-init
-search-init c = (search rules, refl, λ j h. absurd (omega arith))
-
-pub offset_bounds-pool-k : goal.offset_bounds-pool-k
-offset_bounds-pool-k c = search rules
-
-pub bounds-pool-k : goal.bounds-pool-k
-bounds-pool-k c = search rules
-
-pub loop-v-init : goal.loop-v-init
-loop-v-init c = (c.search.invariant.1, search rules, λ o h. absurd (omega arith))
-
-pub bounds-on-k : goal.bounds-on-k
-bounds-on-k c = let r = range_at c.args.pool.ranges c.search.k in
-    let offset = near_offset r c.loop-v.invariant.1 (omega arith) c.near_last-last.ensures.value in
+pub read_permanents-requires : goal.read_permanents-requires
+read_permanents-requires c =
+    let a = c.args in
+    let held = many_few is_live a.slots.all slot_count (search rules) in
+    let n0 = c.read_slots.ensures.count in
     omega arith
 
-pub loop-v-preserved : goal.loop-v-preserved
-loop-v-preserved c = let first = (range_at c.args.pool.ranges c.search.k).first in
-    (c.loop-v.invariant.0, search rules, passed_one _ c.search.k first c.loop-v.v c.loop-v.invariant.1 c.loop-v.invariant.2 c.if-not-on-k.false)
+pub read_request-requires : goal.read_request-requires
+read_request-requires c =
+    let a = c.args in
+    let held = many_few is_live a.slots.all slot_count (search rules) in
+    let n0 = c.read_slots.ensures.count in
+    let kept = many_few has_pair a.pool.permanents permanent_count (search rules) in
+    let n1 = c.read_permanents.ensures.count in
+    omega arith
 
-pub search-preserved : goal.search-preserved
-search-preserved c = (
-  search rules,
-  c.loop-v.invariant.0,
-  full_next c.args.pool.ranges _ c.search.k c.search.invariant.2 (record { fits = rw c.near_last-last.ensures.value at c.near_last-last.ensures.within; all_on = λ o h. c.loop-v.invariant.2 o (omega arith) }),
-)
+pub read_listed-requires : goal.read_listed-requires
+read_listed-requires c =
+    let a = c.args in
+    let held = many_few is_live a.slots.all slot_count (search rules) in
+    let n0 = c.read_slots.ensures.count in
+    let kept = many_few has_pair a.pool.permanents permanent_count (search rules) in
+    let n1 = c.read_permanents.ensures.count in
+    let one = there_most (one_pair a.state) in
+    let n2 = c.read_request.ensures.count in
+    (rw c.listed.ensures (listed_few a.doubts (search rules)), omega arith)
 
-pub returns-after-search : goal.returns-after-search
-returns-after-search c = let a = c.args in
-    let few =
-    sparse a.slots.all a.doubts a.out a.state a.pool.permanents (search rules) (search rules) (search rules) (search rules) in
-    let none =
-    walked_end (taken_singly a.slots.all a.doubts a.out a.state a.pool.permanents) few a.pool.ranges c.ranges_used-n.result _ c.ranges_used-n.ensures.within (search rules)
-    c.mark_pairs.ensures.marks c.ranges_used-n.ensures.value c.search.invariant.0 c.search-test.false c.search.invariant.2 in
-    answer a.slots.all a.doubts a.out a.state a.pool (sym c.is_all_taken.ensures ∙ c.if-is_all_taken.false) c.ranges_used-n.ensures.value c.if-n-eq0.false (c.search.invariant.1 ∙ none) c.mark_pairs.ensures.count
+pub read_listed-requires-2 : goal.read_listed-requires-2
+read_listed-requires-2 c =
+    let a = c.args in
+    let held = many_few is_live a.slots.all slot_count (search rules) in
+    let n0 = c.read_slots.ensures.count in
+    let kept = many_few has_pair a.pool.permanents permanent_count (search rules) in
+    let n1 = c.read_permanents.ensures.count in
+    let one = there_most (one_pair a.state) in
+    let n2 = c.read_request.ensures.count in
+    let doubts = rw (sym c.listed.ensures) at (listed_few a.doubts (search rules)) in
+    let n3 = c.read_listed.ensures.count in
+    (rw c.listed-2.ensures (listed_few a.out.pairs (search rules)), omega arith)
 
-pub returns-then-not-on-k : goal.returns-then-not-on-k
-returns-then-not-on-k c = let a = c.args in
-    let few =
-    sparse a.slots.all a.doubts a.out a.state a.pool.permanents (search rules) (search rules) (search rules) (search rules) in
-    let found =
-    walked_found (taken_singly a.slots.all a.doubts a.out a.state a.pool.permanents) few a.pool.ranges c.ranges_used-n.result _ c.ranges_used-n.ensures.within (search rules)
-    c.mark_pairs.ensures.marks c.search.k c.search-test.true c.search.invariant.2 c.near_last-last.ensures.value c.near_last-last.ensures.within c.loop-v.invariant.1 (omega arith) c.loop-v.invariant.2
-    c.if-not-on-k.true in
-    answer a.slots.all a.doubts a.out a.state a.pool (sym c.is_all_taken.ensures ∙ c.if-is_all_taken.false) c.ranges_used-n.ensures.value c.if-n-eq0.false found c.mark_pairs.ensures.count
+pub returns : goal.returns
+returns c =
+    let a = c.args in
+    let rs = take c.ranges_used.result a.pool.ranges in
+    let ds : length a.doubts.numbers ≡ room = search rules in
+    let os : length a.out.pairs.numbers ≡ room = search rules in
+    let doubts = rw c.listed.ensures at c.read_listed.ensures in
+    let out = rw c.listed-2.ensures at c.read_listed-2.ensures in
+    let all = read_then rs (read_then rs (read_then rs (read_then rs c.read_slots.ensures c.read_permanents.ensures) c.read_request.ensures) doubts) out in
+    answer a.slots.all a.doubts a.out a.state a.pool (search rules) ds os (search rules) (search rules)
+    (sym c.is_all_taken.ensures ∙ c.if-is_all_taken.false)
+    (λ z. c.if-ranges-eq0.false (c.ranges_used.ensures.value ∙ z))
+    {new = c.read_listed-2.new.self} refl
+    (rw c.ranges_used.ensures.value at (together a.slots.all a.doubts a.out a.state a.pool.permanents rs ds os all))
+    (rw c.ranges_used.ensures.value at c.lowest_free.ensures)
