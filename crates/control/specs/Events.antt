@@ -4,18 +4,15 @@
 --   offered_at, offered   what an offer does: with a slot and a pair, with a slot
 -- Each event is the whole answer, the table and the reply, on any input. What is refused is in refusals, what connect, clear and offer
 -- do in commands. Assumes nothing.
-use Rattle.std.specs.Prelude.{ℕ, cond, false, List, [], replicate}
+use Rattle.std.specs.Prelude.{ℕ, cond, false, List, []}
 use Rattle.channels.specs.declared.Channel.{Channel}
 use Rattle.channels.specs.declared.Channel.TheVariants.{None, Pair}
-use Rattle.pairs.specs.Pairs.{no_pairs}
 use Rattle.provisioning.specs.Provisioning.{provision}
-use Rattle.calls.specs.Calls.{no_slot, is_empty}
+use Rattle.calls.specs.Calls.{is_empty}
 use Rattle.first.specs.declared.Found.{Found}
 use Rattle.first.specs.declared.Found.TheVariants.{Nothing, At}
 use Rattle.first.specs.First.{place}
-use Rattle.slots.specs.Slots.{slot_count, hold_at, unused_reference}
-use Rattle.service.specs.declared.GlobalState.TheVariants.{Null}
-use Rattle.service.specs.Service.{none_out}
+use Rattle.slots.specs.Slots.{hold_at, unused_reference}
 use Rattle.header.specs.declared.Head.{Head}
 use Rattle.header.specs.declared.Head.TheVariants.{Ignored, Is}
 use Rattle.header.specs.Header.{head_of}
@@ -25,23 +22,15 @@ use Rattle.restarts.specs.declared.Target.{Target}
 use Rattle.restarts.specs.Own.{named_by, requested, put_back}
 use Rattle.table.specs.declared.Table.{Table}
 use Rattle.table.specs.Effects.{free_pair, message_effect, tick_effect, due_after}
-use Rattle.outcome.specs.declared.Started.{Started}
 use Rattle.refusals.specs.Refusals.{message_refusal, common_refusal, connect_refusal, clear_refusal, offer_refusal, restart_refusal}
-use Rattle.outcome.specs.Outcome.{Outcome, sending, accepted_as, unless_refused}
+use Rattle.outcome.specs.Outcome.{Outcome, sending, accepted_as, unless_refused, Started, fresh_table}
 use Rattle.commands.specs.Commands.{connected, cleared, offered_on}
 
 -- "start takes permitted ranges .. and permanent pairs"; "the last accepted reading, 0 at start"; "A refused start gives no table to use."
 abbrev pub start_of : List ℕ → List ℕ → Started
 start_of ranges pairs = record {
   refusal = cond (provision ranges pairs).accepted 0 9;
-  table = record {
-    slots = record { all = replicate slot_count no_slot };
-    last = 0;
-    doubts = no_pairs;
-    global = record { state = Null };
-    out = none_out;
-    pool = (provision ranges pairs).pool;
-  };
+  table = fresh_table (provision ranges pairs).pool;
 }
 
 -- steps 1 and 2: "ignored"; "An accepted event stores its reading, even where the message is ignored."

@@ -5,8 +5,8 @@
 //   connect, clear       the host answers or ends a call
 //   offer                the host offers a call to the user
 //   restart, put_back    the host sends RESTART, and puts the pairs out of service back
-// What they answer is outcome's `Answer` and `Started`.
-// No event has a `requires`: what is wrong with its input is refused by its number. A reply fills the front of the lent
+// What they answer is outcome's `Answer`, or a `Refusal`: then the table that was given stays the table.
+// No event has a `requires`: what is wrong with its input is refused. A reply fills the front of the lent
 // room; octets behind it are unchanged. Assumes nothing.
 #![tactic(auto)]
 
@@ -14,48 +14,39 @@ ghost use Rattle.std.specs.Prelude.{◌≡◌, ◌≤◌, length};
 ghost use Rattle.calls.specs.Timers.{largest_reading};
 ghost use Rattle.octets.specs.Octets.{front};
 ghost use Rattle.header.specs.Header.{head_of};
+ghost use Rattle.outcome.specs.Outcome.{answer_of, started_of};
 ghost use Rattle.control.specs.Events.{start_of, heard_by, message_of, tick_of, connect_of, clear_of, offer_of, restart_of, put_back_of};
 
 use channels::Channel;
 use effects::Effect;
 use first::Found;
 use header::Head;
-use outcome::{Answer, Started};
+use outcome::Answer;
 use pairs::Pairs;
+use refusal::Refusal;
 use restarts::Target;
 use service::{Global, GlobalState, OutOfService};
 use slots::Slots;
 use table::Table;
 
 // Starts with permitted ranges, three numbers for each, and permanent pairs, two for each.
-pub fn start(ranges: &[u16], pairs: &[u16]) -> Started
-    ensures { result ≡ start_of ranges.now pairs.now }
+pub fn start(ranges: &[u16], pairs: &[u16]) -> Result<Table, Refusal>
+    ensures { started_of result ≡ start_of ranges.now pairs.now }
 {
-    let provision = provisioning::pool_of(ranges, pairs);
-    let pool = provision.pool;
+    let pool = provisioning::pool_of(ranges, pairs).ok_or(Refusal::BrokenRule)?;
     let slots = Slots::fresh();
     let doubts = Pairs::none();
     let state = GlobalState::Null;
-    let global = Global { state: state };
+    let global = Global { state };
     let out = OutOfService::none();
-    let table = Table {
-        slots: slots,
+    Ok(Table {
+        slots,
         last: 0,
-        doubts: doubts,
-        global: global,
-        out: out,
-        pool: pool,
-    };
-    if provision.accepted {
-        return Started {
-            refusal: 0,
-            table: table,
-        };
-    }
-    Started {
-        refusal: 9,
-        table: table,
-    }
+        doubts,
+        global,
+        out,
+        pool,
+    })
 }
 
 // What an accepted message does.
@@ -70,45 +61,46 @@ fn hear(table: Table, reading: u64, m: &[u8]) -> Effect
 }
 
 // A message from the user.
-pub fn message(table: Table, label: u64, reading: u64, room: &mut [u8], m: &[u8]) -> Answer
-    ensures { (result ≡ (message_of table label reading (length room.old) m.now).answer)
+pub fn message(
+    table: Table,
+    label: u64,
+    reading: u64,
+    room: &mut [u8],
+    m: &[u8],
+) -> Result<Answer, Refusal>
+    ensures { (answer_of table result ≡ (message_of table label reading (length room.old) m.now).answer)
         × (room.new ≡ front (message_of table label reading (length room.old) m.now).reply room.old) }
 {
-    let n = refusals::message_refusal(table.last, label, reading, room.len(), m);
-    if n != 0 {
-        return outcome::refuse(table, n);
-    }
+    refusals::message_refusal(table.last, label, reading, room.len(), m)?;
     let effect = hear(table, reading, m);
-    outcome::accept(table, reading, effect, false, b"", room)
+    Ok(outcome::accept(table, reading, effect, false, b"", room))
 }
 
 // The clock: fires at most one due timer.
-pub fn tick(table: Table, label: u64, reading: u64, room: &mut [u8]) -> Answer
-    ensures { (result ≡ (tick_of table label reading (length room.old)).answer)
+pub fn tick(table: Table, label: u64, reading: u64, room: &mut [u8]) -> Result<Answer, Refusal>
+    ensures { (answer_of table result ≡ (tick_of table label reading (length room.old)).answer)
         × (room.new ≡ front (tick_of table label reading (length room.old)).reply room.old) }
 {
-    let n = refusals::common_refusal(table.last, label, reading, room.len());
-    if n != 0 {
-        return outcome::refuse(table, n);
-    }
+    refusals::common_refusal(table.last, label, reading, room.len())?;
     let fired = table.fire(reading);
-    let effect = fired.effect;
-    outcome::accept(table, reading, effect, fired.more, b"", room)
+    Ok(outcome::accept(table, reading, fired.effect, fired.more, b"", room))
 }
 
 // The host answers the call of a slot.
-pub fn connect(table: Table, label: u64, reading: u64, room: &mut [u8], slot: u64) -> Answer
-    ensures { (result ≡ (connect_of table label reading (length room.old) slot).answer)
+pub fn connect(
+    table: Table,
+    label: u64,
+    reading: u64,
+    room: &mut [u8],
+    slot: u64,
+) -> Result<Answer, Refusal>
+    ensures { (answer_of table result ≡ (connect_of table label reading (length room.old) slot).answer)
         × (room.new ≡ front (connect_of table label reading (length room.old) slot).reply room.old) }
 {
-    let slots = table.slots;
-    let hold = slots.hold_at(slot);
-    let n = refusals::connect_refusal(table.last, label, reading, room.len(), hold);
-    if n != 0 {
-        return outcome::refuse(table, n);
-    }
+    let hold = table.slots.hold_at(slot);
+    refusals::connect_refusal(table.last, label, reading, room.len(), hold)?;
     let effect = commands::connect_call(slot as usize, hold);
-    outcome::accept(table, reading, effect, false, b"", room)
+    Ok(outcome::accept(table, reading, effect, false, b"", room))
 }
 
 // The host ends the call of a slot.
@@ -119,72 +111,73 @@ pub fn clear(
     room: &mut [u8],
     slot: u64,
     cause: u64,
-) -> Answer
-    ensures { (result ≡ (clear_of table label reading (length room.old) slot cause).answer)
+) -> Result<Answer, Refusal>
+    ensures { (answer_of table result ≡ (clear_of table label reading (length room.old) slot cause).answer)
         × (room.new ≡ front (clear_of table label reading (length room.old) slot cause).reply room.old) }
 {
-    let slots = table.slots;
-    let hold = slots.hold_at(slot);
-    let n = refusals::clear_refusal(table.last, label, reading, room.len(), hold, cause);
-    if n != 0 {
-        return outcome::refuse(table, n);
-    }
+    let hold = table.slots.hold_at(slot);
+    refusals::clear_refusal(table.last, label, reading, room.len(), hold, cause)?;
     let effect = commands::clear_call(reading, slot as usize, hold, cause as u8);
-    outcome::accept(table, reading, effect, false, b"", room)
+    Ok(outcome::accept(table, reading, effect, false, b"", room))
 }
 
 // The host offers a call to the user.
-pub fn offer(table: Table, label: u64, reading: u64, room: &mut [u8], body: &[u8]) -> Answer
-    ensures { (result ≡ (offer_of table label reading (length room.old) body.now).answer)
+pub fn offer(
+    table: Table,
+    label: u64,
+    reading: u64,
+    room: &mut [u8],
+    body: &[u8],
+) -> Result<Answer, Refusal>
+    ensures { (answer_of table result ≡ (offer_of table label reading (length room.old) body.now).answer)
         × (room.new ≡ front (offer_of table label reading (length room.old) body.now).reply room.old) }
 {
-    let n = refusals::common_refusal(table.last, label, reading, room.len());
-    if n != 0 {
-        return outcome::refuse(table, n);
-    }
-    let wrong = refusals::body_refusal(body);
-    if wrong != 0 {
-        return outcome::refuse(table, wrong);
-    }
+    refusals::common_refusal(table.last, label, reading, room.len())?;
+    refusals::body_refusal(body)?;
     let slots = table.slots;
     match slots.lowest_empty() {
-        Found::Nothing => outcome::refuse(table, 11),
+        Found::Nothing => Err(Refusal::NoEmptySlot),
         Found::At(i) => match table.free_pair() {
-            Channel::None => outcome::refuse(table, 12),
+            Channel::None => Err(Refusal::NoFreePair),
             Channel::Pair(vpci, vci) => {
                 let reference = slots.unused_reference();
                 let effect = commands::offer_call(reading, i, reference, vpci, vci);
-                outcome::accept(table, reading, effect, false, body, room)
+                Ok(outcome::accept(table, reading, effect, false, body, room))
             }
         },
     }
 }
 
 // The host sends RESTART, for one pair or for all.
-pub fn restart(table: Table, label: u64, reading: u64, room: &mut [u8], target: Target) -> Answer
-    ensures { (result ≡ (restart_of table label reading (length room.old) target).answer)
+pub fn restart(
+    table: Table,
+    label: u64,
+    reading: u64,
+    room: &mut [u8],
+    target: Target,
+) -> Result<Answer, Refusal>
+    ensures { (answer_of table result ≡ (restart_of table label reading (length room.old) target).answer)
         × (room.new ≡ front (restart_of table label reading (length room.old) target).reply room.old) }
 {
-    let global = table.global;
-    let state = global.state;
-    let pool = table.pool;
-    let n = refusals::restart_refusal(table.last, label, reading, room.len(), state, pool, target);
-    if n != 0 {
-        return outcome::refuse(table, n);
-    }
+    refusals::restart_refusal(
+        table.last,
+        label,
+        reading,
+        room.len(),
+        table.global.state,
+        table.pool,
+        target,
+    )?;
     let effect = restarts::request(reading, restarts::named_by(target), false);
-    outcome::accept(table, reading, effect, false, b"", room)
+    Ok(outcome::accept(table, reading, effect, false, b"", room))
 }
 
 // The host puts all pairs that are out of service back.
-pub fn put_back(table: Table, label: u64, reading: u64, room: &mut [u8]) -> Answer
-    ensures { (result ≡ (put_back_of table label reading (length room.old)).answer)
+pub fn put_back(table: Table, label: u64, reading: u64, room: &mut [u8]) -> Result<Answer, Refusal>
+    ensures { (answer_of table result ≡ (put_back_of table label reading (length room.old)).answer)
         × (room.new ≡ front (put_back_of table label reading (length room.old)).reply room.old) }
 {
-    let n = refusals::common_refusal(table.last, label, reading, room.len());
-    if n != 0 {
-        return outcome::refuse(table, n);
-    }
+    refusals::common_refusal(table.last, label, reading, room.len())?;
     let effect = restarts::put_back();
-    outcome::accept(table, reading, effect, false, b"", room)
+    Ok(outcome::accept(table, reading, effect, false, b"", room))
 }

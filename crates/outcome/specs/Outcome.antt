@@ -1,12 +1,27 @@
 -- The outcome of an event: the answer with the table afterwards, and the reply's octets.
+--   Answered       an answer as document 01 has it: with the refusal number, 0 for what is accepted
 --   Outcome        what the host gets, and what stands at the front of its room
+--   answer_of       the answer that an event's result says, of a table
 --   effect_octets   what an effect sends
 --   sending        the outcome of an effect: the table afterwards, the answer, and what is sent
 --   refused_with    "A refusal answers reply length 0, notice 0 and no flags; table, last reading and reply room stay unchanged."
 --   accepted_as     "An accepted event stores its reading"
 --   unless_refused  a refusal number decides
+--   Started        what a start or a reload answers, as document 01 has it
+--   fresh_table     the table that a start makes on a pool
+--   started_of      the answer that the result of a start or of a reload says
 -- Assumes nothing.
-use Rattle.std.specs.Prelude.{ℕ, Bool, false, cond, List, [], eqb, length}
+use Rattle.std.specs.Prelude.{ℕ, Bool, false, cond, List, [], eqb, length, replicate, Result, Ok, Err}
+use Rattle.refusal.specs.declared.Refusal.{Refusal}
+use Rattle.refusal.specs.Refusal.{number_of}
+use Rattle.channels.specs.declared.Pool.{Pool}
+use Rattle.channels.specs.Channels.{empty_pool}
+use Rattle.pairs.specs.Pairs.{no_pairs}
+use Rattle.service.specs.declared.GlobalState.TheVariants.{Null}
+use Rattle.service.specs.Service.{none_out}
+use Rattle.calls.specs.Calls.{no_slot}
+use Rattle.slots.specs.declared.Flags.{Flags}
+use Rattle.slots.specs.Slots.{slot_count}
 use Rattle.replies.specs.Reply.{sent_octets}
 use Rattle.effects.specs.declared.Effect.{Effect}
 use Rattle.effects.specs.Change.{no_flags, flags_of, notice_of}
@@ -14,9 +29,23 @@ use Rattle.table.specs.declared.Table.{Table}
 use Rattle.table.specs.Effects.{table_after}
 use Rattle.outcome.specs.declared.Answer.{Answer}
 
+-- "An answer is the refusal number, the reply's octets, notice, flags and, for a tick, whether another is due"; with the table afterwards
+pub record Answered : Type 0 where
+  pub table : Table
+  pub refusal : ℕ
+  pub length : ℕ
+  pub notice : ℕ
+  pub flags : Flags
+  pub more : Bool
+
 pub record Outcome : Type 0 where
-  pub answer : Answer
+  pub answer : Answered
   pub reply : List ℕ
+
+-- a refusal leaves the table as it was given, and answers nothing but its number
+abbrev pub answer_of : Table → Result Answer Refusal → Answered
+answer_of t (Ok a) = record { table = a.table; refusal = 0; length = a.length; notice = a.notice; flags = a.flags; more = a.more }
+answer_of t (Err r) = record { table = t; refusal = number_of r; length = 0; notice = 0; flags = no_flags; more = false }
 
 abbrev pub refused_with : Table → ℕ → Outcome
 refused_with t n = record {
@@ -47,3 +76,23 @@ accepted_as t reading x = sending t reading x false []
 
 abbrev pub unless_refused : Table → ℕ → Outcome → Outcome
 unless_refused t n o = cond (eqb n 0) o (refused_with t n)
+
+pub record Started : Type 0 where
+  pub refusal : ℕ
+  pub table : Table
+
+-- "The table has the 32 slots of calls, .. and the last accepted reading, 0 at start."
+abbrev pub fresh_table : Pool → Table
+fresh_table pool = record {
+  slots = record { all = replicate slot_count no_slot };
+  last = 0;
+  doubts = no_pairs;
+  global = record { state = Null };
+  out = none_out;
+  pool = pool;
+}
+
+-- "A refused start gives no table to use.": one that no pair is permitted in stands for none
+abbrev pub started_of : Result Table Refusal → Started
+started_of (Ok t) = record { refusal = 0; table = t }
+started_of (Err r) = record { refusal = number_of r; table = fresh_table empty_pool }

@@ -5,15 +5,15 @@
 --   all_below                       a test of each number below another
 --   fits, ascending                the k-th of a list of ranges keeps the limits and comes behind the one before it; and so the first n
 --   ranges_ok, pairs_ok              a list that breaks no rule
---   numbered, pool_of, refused, provision     what start makes of its lists
+--   Provision, numbered, pool_of, refused, provision     what start makes of its lists
+--   provision_of                   the same, said by a pool or none
 -- Assumes nothing.
-use Rattle.std.specs.Prelude.{ℕ, zero, suc, ◌+◌, ◌-◌, ◌*◌, ◌/◌, ◌%◌, Bool, true, false, cond, ◌&&◌, ◌||◌, List, [], ◌∷◌, eqb, leb, ltb, length, get_or}
+use Rattle.std.specs.Prelude.{ℕ, zero, suc, ◌+◌, ◌-◌, ◌*◌, ◌/◌, ◌%◌, Bool, true, false, cond, ◌&&◌, ◌||◌, List, [], ◌∷◌, eqb, leb, ltb, length, get_or, Option, Some, None}
 use Rattle.channels.specs.Channels.{no_range, no_entry, empty_pool}
 use Rattle.channels.specs.declared.Channel.TheVariants.{Pair}
 use Rattle.channels.specs.declared.Entry.{Entry}
 use Rattle.channels.specs.declared.Range.{Range}
 use Rattle.channels.specs.declared.Pool.{Pool}
-use Rattle.provisioning.specs.declared.Provision.{Provision}
 
 -- "permitted ranges as a lent list of 16-bit numbers, three for each range (VPCI, first VCI, last VCI)"
 abbrev pub range_at : List ℕ → ℕ → Range
@@ -72,9 +72,18 @@ numbered f k (suc n) = f k ∷ numbered f (k + 1) n
 abbrev pub pool_of : List ℕ → List ℕ → Pool
 pool_of ranges pairs = record { ranges = numbered (range_at ranges) 0 4; permanents = numbered (entry_at pairs) 0 8 }
 
--- "A refused start gives no table to use."
+-- if the lists are accepted, and their pool
+pub record Provision : Type 0 where
+  pub accepted : Bool
+  pub pool : Pool
+
+-- "A refused start gives no table to use.": the empty pool stands for none
 abbrev pub refused : Provision
 refused = record { accepted = false; pool = empty_pool }
 
 abbrev pub provision : List ℕ → List ℕ → Provision
 provision ranges pairs = cond (ranges_ok ranges && pairs_ok pairs) (record { accepted = true; pool = pool_of ranges pairs }) refused
+
+abbrev pub provision_of : Option Pool → Provision
+provision_of (Some pool) = record { accepted = true; pool = pool }
+provision_of None = refused

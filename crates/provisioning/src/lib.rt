@@ -1,5 +1,4 @@
 // Provisioning: the lists that start takes, checked and made into a pool.
-//   Provision                    if the lists are accepted, and their pool
 //   before                       the order of pairs, by VPCI and then VCI
 //   range_at, single_at          the k-th range of a list of triples; the k-th of a list of pairs, as the range of its one VCI
 //   entry_at                     the k-th of a list of pairs, as an entry of the pool
@@ -8,21 +7,14 @@
 //   range_fits, single_fits      if the k-th keeps the limits and comes behind the one before it
 //   ranges_ascend, pairs_ascend  all of a list
 //   ranges_ok, pairs_ok          a list's length and all of it
-//   accepted_pool, pool_of       the pool of the lists, and the answer to start's lists
+//   accepted_pool, pool_of       the pool of the lists, and the pool of start's lists if they are accepted
 // Nothing here has a `requires`. Assumes nothing.
 #![tactic(auto)]
 
 ghost use Rattle.std.specs.Prelude.{◌≡◌, ◌/◌, length};
-ghost use Rattle.provisioning.specs.Provisioning.{before, apart, range_at, single_at, entry_at, range_ok, fits, ascending, ranges_ok, pairs_ok, pool_of, refused, provision};
+ghost use Rattle.provisioning.specs.Provisioning.{before, apart, range_at, single_at, entry_at, range_ok, fits, ascending, ranges_ok, pairs_ok, pool_of, provision, provision_of};
 
 use channels::{Channel, Entry, Pool, Range};
-
-// What start makes of its lists. A refused one has the empty pool.
-#[derive(Clone, Copy)]
-pub struct Provision {
-    pub accepted: bool,
-    pub pool: Pool,
-}
 
 // If the pair (p, v) comes before the pair (q, w).
 pub fn before(p: u16, v: u16, q: u16, w: u16) -> bool
@@ -208,28 +200,13 @@ pub fn accepted_pool(ranges: &[u16], pairs: &[u16]) -> Pool
     }
 }
 
-fn refused() -> Provision
-    ensures { result ≡ refused }
+// The pool of start's lists; none if one of them breaks a rule.
+pub fn pool_of(ranges: &[u16], pairs: &[u16]) -> Option<Pool>
+    ensures { provision_of result ≡ provision ranges.now pairs.now }
 {
-    let pool = Pool::empty();
-    Provision {
-        accepted: false,
-        pool: pool,
-    }
-}
-
-pub fn pool_of(ranges: &[u16], pairs: &[u16]) -> Provision
-    ensures { result ≡ provision ranges.now pairs.now }
-{
-    if !ranges_ok(ranges) {
-        return refused();
-    }
-    if !pairs_ok(pairs) {
-        return refused();
-    }
-    let pool = accepted_pool(ranges, pairs);
-    Provision {
-        accepted: true,
-        pool: pool,
+    if ranges_ok(ranges) && pairs_ok(pairs) {
+        Some(accepted_pool(ranges, pairs))
+    } else {
+        None
     }
 }

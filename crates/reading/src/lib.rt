@@ -1,5 +1,5 @@
 // What octets say as a saved form, read with no question asked. docs/FORMATS.md has the layout.
-//   provision_of     what start makes of the two lists
+//   pool_of          the pool that start makes of the two lists, if it accepts them
 //   table_of         the table, with a pool
 // Past the end stand zeros, and what is not a form reads as some table, whose form is another. Nothing public has a `requires`.
 // Assumes nothing.
@@ -7,13 +7,12 @@
 
 ghost use Rattle.std.specs.Prelude.{◌≡◌, ◌+◌, ◌≤◌, length, get_or, take, drop};
 ghost use Rattle.slots.specs.Slots.{slot_count};
-ghost use Rattle.provisioning.specs.Provisioning.{provision};
+ghost use Rattle.provisioning.specs.Provisioning.{provision, provision_of};
 ghost use Rattle.reading.specs.Reading.{two_at, four_at, eight_at, rest, least, list_in, range_numbers, pair_numbers, pairs_in, out_in, named_in, request_in, clearing_in, state_in, reference_in, call_in, begins, slot_in, behind_slot, slots_in, table_with};
 
 use calls::{Call, Clearing, Slot, State};
 use channels::{Named, Pool};
 use pairs::{Pairs, ROOM};
-use provisioning::Provision;
 use service::{Global, GlobalState, OutOfService};
 use slots::{SLOTS, Slots};
 use table::Table;
@@ -106,17 +105,13 @@ fn list_in(form: &[u8], at: usize, most: usize) -> List
     }
 }
 
-// What start makes of the two lists.
-pub fn provision_of(form: &[u8]) -> Provision
-    ensures { result ≡ provision (range_numbers form.now) (pair_numbers form.now) }
+// The pool that start makes of the two lists.
+pub fn pool_of(form: &[u8]) -> Option<Pool>
+    ensures { provision_of result ≡ provision (range_numbers form.now) (pair_numbers form.now) }
 {
     let ranges = list_in(form, 0, 12);
     let pairs = list_in(form, behind(form, 0), 16);
-    let r = ranges.n;
-    let p = pairs.n;
-    let first = ranges.numbers;
-    let second = pairs.numbers;
-    provisioning::pool_of(&first[..r], &second[..p])
+    provisioning::pool_of(&ranges.numbers[..ranges.n], &pairs.numbers[..pairs.n])
 }
 
 // The pairs of the field at a place, from octet `from` of it on: behind them stand zeros.

@@ -8,10 +8,9 @@ use mathlib.Core.Bool.{Bool, true, false, cond, ◌&&◌}
 use mathlib.Core.List.{List}
 use lib.Dec.{leb}
 use Rattle.octets.specs.Octets.{equal}
-use Rattle.provisioning.specs.declared.Provision.{Provision}
-use Rattle.provisioning.specs.Provisioning.{provision}
+use Rattle.provisioning.specs.Provisioning.{Provision, provision}
 use Rattle.table.specs.declared.Table.{Table}
-use Rattle.outcome.specs.declared.Started.{Started}
+use Rattle.outcome.specs.Outcome.{Started}
 use Rattle.calls.specs.Timers.{largest_reading}
 use Rattle.saved.specs.Form.{form_of}
 use Rattle.reading.specs.Reading.{range_numbers, pair_numbers, table_with, table_in}

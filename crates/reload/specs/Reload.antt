@@ -3,17 +3,13 @@
 --   no_table                a refusal
 --   reload_in, reload_of     what reloading answers, for so many slots and for ours
 -- The rules are in crate rules. Assumes nothing.
-use Rattle.std.specs.Prelude.{ℕ, Bool, cond, ◌&&◌, List, leb, replicate}
+use Rattle.std.specs.Prelude.{ℕ, Bool, cond, ◌&&◌, List, leb}
 use Rattle.octets.specs.Octets.{equal}
 use Rattle.provisioning.specs.Provisioning.{provision}
 use Rattle.channels.specs.Channels.{empty_pool}
-use Rattle.pairs.specs.Pairs.{no_pairs}
-use Rattle.service.specs.declared.GlobalState.TheVariants.{Null}
-use Rattle.service.specs.Service.{none_out}
-use Rattle.calls.specs.Calls.{no_slot}
 use Rattle.calls.specs.Timers.{largest_reading}
-use Rattle.slots.specs.Slots.{slot_count, slots_of}
-use Rattle.outcome.specs.declared.Started.{Started}
+use Rattle.slots.specs.Slots.{slot_count}
+use Rattle.outcome.specs.Outcome.{Started, fresh_table}
 use Rattle.rules.specs.Rules.{table_kept}
 use Rattle.saved.specs.Form.{form_of}
 use Rattle.reading.specs.Reading.{range_numbers, pair_numbers, table_in}
@@ -28,17 +24,7 @@ is_form count f =
 
 -- "with 9 and gives no table": what a refused start answers
 abbrev pub no_table : Started
-no_table = record {
-  refusal = 9;
-  table = record {
-    slots = slots_of (replicate slot_count no_slot);
-    last = 0;
-    doubts = no_pairs;
-    global = record { state = Null };
-    out = none_out;
-    pool = empty_pool;
-  };
-}
+no_table = record { refusal = 9; table = fresh_table empty_pool }
 
 abbrev pub reload_in : ℕ → List ℕ → Started
 reload_in count f = cond (is_form count f) (record { refusal = 0; table = table_in count f }) no_table

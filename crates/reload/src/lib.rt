@@ -7,15 +7,12 @@
 ghost use Rattle.std.specs.Prelude.{◌≡◌};
 ghost use Rattle.octets.specs.Octets.{equal};
 ghost use Rattle.saved.specs.Form.{form_of};
-ghost use Rattle.reload.specs.Reload.{no_table, reload_of};
+ghost use Rattle.outcome.specs.Outcome.{started_of};
+ghost use Rattle.reload.specs.Reload.{reload_of};
 
 use calls::LARGEST_READING;
-use channels::Pool;
-use outcome::Started;
-use pairs::Pairs;
+use refusal::Refusal;
 use saved::LONGEST;
-use service::{Global, GlobalState, OutOfService};
-use slots::Slots;
 use table::Table;
 
 // If the octets are the table's own form.
@@ -24,54 +21,18 @@ fn is_own(table: Table, form: &[u8]) -> bool
 {
     let mut own = [0u8; LONGEST];
     let n = saved::put_form(&mut own, 0, table);
-    octets::same(&own[..n], form)
-}
-
-// Refusal 9, with the table of a refused start.
-fn refuse() -> Started
-    ensures { result ≡ no_table }
-{
-    let slots = Slots::fresh();
-    let doubts = Pairs::none();
-    let state = GlobalState::Null;
-    let global = Global { state: state };
-    let out = OutOfService::none();
-    let pool = Pool::empty();
-    let table = Table {
-        slots: slots,
-        last: 0,
-        doubts: doubts,
-        global: global,
-        out: out,
-        pool: pool,
-    };
-    Started {
-        refusal: 9,
-        table: table,
-    }
+    &own[..n] == form
 }
 
 // The table of a form, or refusal 9.
-pub fn reload(form: &[u8]) -> Started
-    ensures { result ≡ reload_of form.now }
+pub fn reload(form: &[u8]) -> Result<Table, Refusal>
+    ensures { started_of result ≡ reload_of form.now }
 {
-    let lists = reading::provision_of(form);
-    if !lists.accepted {
-        return refuse();
-    }
-    let pool = lists.pool;
+    let pool = reading::pool_of(form).ok_or(Refusal::BrokenRule)?;
     let table = reading::table_of(form, pool);
-    if LARGEST_READING < table.last {
-        return refuse();
-    }
-    if !rules::is_kept(table) {
-        return refuse();
-    }
-    if !is_own(table, form) {
-        return refuse();
-    }
-    Started {
-        refusal: 0,
-        table: table,
+    if table.last <= LARGEST_READING && rules::is_kept(table) && is_own(table, form) {
+        Ok(table)
+    } else {
+        Err(Refusal::BrokenRule)
     }
 }

@@ -1,6 +1,5 @@
 // The saved form of a table, written to a lent room. docs/FORMATS.md has the layout.
 //   LONGEST      how many octets the longest form has
-//   Saved        what saving answers
 //   put_form     the form at a place of a room
 //   save         the form at the front of a room
 // `put_form` asks for room; nothing else public has a `requires`. Assumes nothing.
@@ -11,22 +10,16 @@ ghost use Rattle.octets.specs.Octets.{Wrote, front};
 ghost use Rattle.pairs.specs.Pairs.{listed};
 ghost use Rattle.fields.specs.Fields.{four, eight, field, range_octets, entry_octets};
 ghost use Rattle.saved.specs.Form.{longest, joined, out_octets, call_fields, form_of};
-ghost use Rattle.saved.specs.Saving.{saved_of, saved_in};
+ghost use Rattle.saved.specs.Saving.{saved_as, saved_of, saved_in};
 
 use channels::Pool;
 use pairs::Pairs;
+use refusal::Refusal;
 use service::OutOfService;
 use slots::{SLOTS, Slots};
 use table::Table;
 
 pub const LONGEST: usize = 1312;
-
-// What saving answers: refusal 0 and the length of the form, or refusal 1.
-#[derive(Clone, Copy)]
-pub struct Saved {
-    pub refusal: u8,
-    pub length: usize,
-}
 
 // The ranges of a pool, one behind the other.
 fn put_ranges(room: &mut [u8], at: usize, pool: Pool) -> usize
@@ -187,22 +180,16 @@ pub fn put_form(room: &mut [u8], at: usize, table: Table) -> usize
     put_calls(room, seventh, slots)
 }
 
-// Writes the form at the front of the room; a room too small for it is refused and stays as it was.
-pub fn save(table: Table, room: &mut [u8]) -> Saved
-    ensures { (result ≡ saved_of table (length room.old))
+// Writes the form at the front of the room, and answers its length; a room too small for it is refused and stays as it was.
+pub fn save(table: Table, room: &mut [u8]) -> Result<usize, Refusal>
+    ensures { (saved_as result ≡ saved_of table (length room.old))
         × (room.new ≡ front (saved_in table (length room.old)) room.old) }
 {
     let mut form = [0u8; LONGEST];
     let size = put_form(&mut form, 0, table);
     if room.len() < size {
-        return Saved {
-            refusal: 1,
-            length: 0,
-        };
+        return Err(Refusal::ShortRoom);
     }
     octets::put(room, 0, &form[..size]);
-    Saved {
-        refusal: 0,
-        length: size,
-    }
+    Ok(size)
 }

@@ -1,23 +1,13 @@
 -- `saved::save` meets its contract: the form is written, its length compared, and then it is copied. Assumes nothing.
 use native.Mathlib.Omega.{arith}
 use mathlib.Core.Path.{◌≡◌, refl}
-use lib.ListN.{length, length-take}
-use borrow.Author.Tests.{lt-ltb, le-ltb}
+use lib.ListN.{length}
+use borrow.Author.Tests.{le-ltb}
 use Rattle.octets.specs.Octets.{Wrote}
 use Rattle.octets.proofs.Stores.{chained}
 use Rattle.saved.specs.Form.{form_of}
 use Rattle.fields.proofs.Filed.{kept}
 use Rattle.saved.proofs.save.Goals as goal
-
-pub returns-then-room-size : goal.returns-then-room-size
-returns-then-room-size c = let e : length (form_of c.args.table) ≡ c.put_form-size.result = omega (arith, c.put_form-size.ensures.wrote.past) in
-    rw (e, lt-ltb _ _ c.if-room-size.true) (refl, refl)
-
-pub slice_bounds-put-end : goal.slice_bounds-put-end
-slice_bounds-put-end c = simp length-take (omega arith)
-
-pub put-requires : goal.put-requires
-put-requires c = simp length-take (omega arith)
 
 pub returns : goal.returns
 returns c = let e : length (form_of c.args.table) ≡ c.put_form-size.result = omega (arith, c.put_form-size.ensures.wrote.past) in

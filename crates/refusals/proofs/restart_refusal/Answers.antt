@@ -1,9 +1,0 @@
-use borrow.Author.Tests.{ne_eqb}
-use mathlib.Core.Path.{refl, sym, ◌∙◌}
-use Rattle.refusals.proofs.restart_refusal.Goals as goal
-
-pub returns-then-n-ne0 : goal.returns-then-n-ne0
-returns-then-n-ne0 c = record { value = rw (← c.common_refusal-n.ensures.value, ne_eqb _ _ c.if-n-ne0.true) refl; passed = λ e. absurd (c.if-n-ne0.true e) }
-
-pub returns : goal.returns
-returns c = record { value = rw (sym c.common_refusal-n.ensures.value ∙ c.if-n-ne0.false) c.target_refusal.ensures.value; passed = λ e. ((c.common_refusal-n.ensures.passed c.if-n-ne0.false).0, (c.common_refusal-n.ensures.passed c.if-n-ne0.false).1, c.target_refusal.ensures.passed e) }
