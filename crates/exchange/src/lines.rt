@@ -2,7 +2,6 @@
 //   Chunk     what the buffer holds
 //   next      reads on
 ghost use Rattle.std.specs.Prelude.{◌+◌, ◌≤◌, length};
-ghost use Rattle.exchange.specs.Chunk.{Held};
 
 use std::io::Read;
 
@@ -12,12 +11,12 @@ pub(crate) struct Chunk {
     pub(crate) whole: usize,
     pub(crate) end: usize,
     pub(crate) open: bool,
+    // The whole lines are among what was read, and that is in the buffer.
+    ghost held: { (whole ≤ end) × (end ≤ 131072) },
 }
 
 impl Chunk {
-    pub(crate) fn none() -> Chunk
-        ensures { Held result }
-    {
+    pub(crate) fn none() -> Chunk {
         Chunk {
             whole: 0,
             end: 0,
@@ -26,26 +25,13 @@ impl Chunk {
     }
 }
 
-fn least(a: usize, b: usize) -> usize
-    ensures { (result ≤ a) × (result ≤ b) }
-{
-    if a < b { a } else { b }
-}
-
 // Moves the octets between two places to the front, 65,537 of them at most: so many tell that a line is too long.
 fn move_up(input: &mut [u8; 131072], from: usize, end: usize) -> usize
     requires { (from ≤ end) × (end ≤ 131072) }
     ensures { result ≤ 65537 }
 {
-    let held = least(end - from, 65537);
-    if from == 0 {
-        return held;
-    }
-    let mut i: usize = 0;
-    while i < held {
-        input[i] = input[from + i];
-        i += 1;
-    }
+    let held = (end - from).min(65537);
+    input.copy_within(from..from + held, 0);
     held
 }
 
@@ -54,46 +40,37 @@ fn fetch(source: &mut impl Read, input: &mut [u8], at: usize) -> usize
     requires { at ≤ length input.old }
     ensures { at + result ≤ length input.old }
 {
-    match source.read(&mut input[at..]) {
-        Ok(got) => got,
-        Err(_) => 0,
-    }
+    source.read(&mut input[at..]).unwrap_or(0)
 }
 
 // The place behind the last line end between two places, or 0 if there is none.
 fn behind_lines(input: &[u8; 131072], from: usize, end: usize) -> usize
-    requires { end ≤ 131072 }
+    requires { (from ≤ end) × (end ≤ 131072) }
     ensures { result ≤ end }
 {
-    let mut i = end;
-    while from < i {
-        if input[i - 1] == b'\n' {
-            return i;
-        }
-        i -= 1;
+    match input[from..end].iter().rposition(|octet| *octet == b'\n') {
+        Some(last) => from + last + 1,
+        None => 0,
     }
-    0
 }
 
 // Reads on behind what is left of the chunk before. The end of the input ends its last line.
-pub(crate) fn next(source: &mut impl Read, input: &mut [u8; 131072], chunk: Chunk) -> Chunk
-    requires { Held chunk }
-    ensures { Held result }
-{
+pub(crate) fn next(source: &mut impl Read, input: &mut [u8; 131072], chunk: Chunk) -> Chunk {
     let held = move_up(input, chunk.whole, chunk.end);
     let got = fetch(source, input, held);
     if got == 0 {
         input[held] = b'\n';
+        let end = held + 1;
         return Chunk {
-            whole: held + 1,
-            end: held + 1,
+            whole: end,
+            end,
             open: false,
         };
     }
     let end = held + got;
     Chunk {
         whole: behind_lines(input, held, end),
-        end: end,
+        end,
         open: true,
     }
 }

@@ -1,6 +1,6 @@
 // Reads an event script from standard input, and writes one answer line for each event.
 //   Desk                       the table, and how much of the output is filled
-//   ask, tell, respond, handle one event
+//   ask, tell, respond, handle one event; a refusal is told by its number
 //   store, keep                a save
 //   open, begin, restore       a start, a reload
 //   take, serve, run           a line, whole lines, all of the script
@@ -14,9 +14,11 @@ ghost use Rattle.std.specs.Prelude.{◌≡◌, ◌≤◌, ◌<◌, length, IfSom
 ghost use Rattle.script.specs.Lines.{Asks, Within};
 
 use lines::Chunk;
-use outcome::{Answer, Started};
+use outcome::Answer;
+use refusal::Refusal;
 use restarts::Target;
 use script::{Clock, Line, List, Request};
+use slots::Flags;
 use std::env::Env;
 use std::io::Read;
 use table::Table;
@@ -24,31 +26,26 @@ use table::Table;
 // The pattern that the reply room is filled with.
 const PATTERN: u8 = 0xA5;
 
-// The table, if a start or a reload was accepted (`live`); if answers are explained; how many octets of the output are filled.
+// The table, if a start or a reload was accepted; if answers are explained; how many octets of the output are filled.
 #[derive(Clone, Copy)]
 struct Desk {
-    table: Table,
-    live: bool,
+    table: Option<Table>,
     explains: bool,
     used: usize,
+    ghost within: { used ≤ 65536 },
 }
 
 impl Desk {
-    fn new(explains: bool) -> Desk
-        ensures { result.used ≡ 0 }
-    {
-        let started = control::start(&[], &[]);
-        let table = started.table;
+    fn new(explains: bool) -> Desk {
         Desk {
-            table: table,
-            live: false,
-            explains: explains,
+            table: None,
+            explains,
             used: 0,
         }
     }
 
     fn filled(mut self, used: usize) -> Desk
-        ensures { result.used ≡ used }
+        requires { used ≤ 65536 }
     {
         self.used = used;
         self
@@ -58,33 +55,47 @@ impl Desk {
 fn lent(room: u64) -> usize
     ensures { result ≤ 4096 }
 {
-    if 4096 < room {
-        return 4096;
-    }
-    room as usize
+    room.min(4096) as usize
 }
 
-// If each octet of a room behind the reply still has the pattern.
-fn untouched(room: &[u8], from: usize) -> bool {
-    let mut other: u8 = 0;
-    let mut i = from;
-    while i < room.len() {
-        other = other | (room[i] ^ PATTERN);
-        i += 1;
+// The first n octets of a room, if it has so many, and each octet behind them still has the pattern.
+fn reply_in(room: &[u8], n: usize) -> Option<&[u8]>
+    ensures { IfSome result (λ r. length r.now ≤ length room.now) }
+{
+    if n <= room.len() && room[n..].iter().all(|octet| *octet == PATTERN) {
+        Some(&room[..n])
+    } else {
+        None
     }
-    other == 0
 }
 
-// Where a reply of that length ends; behind every room if an octet behind the reply was touched.
-fn reply_end(room: &[u8], length: usize) -> usize {
-    if untouched(room, length) {
-        return length;
+// The number of an answer's refusal, 0 for what is accepted.
+fn number_of<T>(answer: &Result<T, Refusal>) -> u8 {
+    match answer {
+        Ok(_) => 0,
+        Err(refusal) => refusal.number(),
     }
-    18446744073709551615
+}
+
+// What the answer line of a refused event tells beside the number: nothing, with the table that stays.
+fn nothing(table: Table) -> Answer {
+    Answer {
+        table,
+        length: 0,
+        notice: 0,
+        flags: Flags::none(),
+        more: false,
+    }
 }
 
 // One event on the table.
-fn ask(table: Table, clock: Clock, request: Request, octets: &[u8], room: &mut [u8]) -> Answer
+fn ask(
+    table: Table,
+    clock: Clock,
+    request: Request,
+    octets: &[u8],
+    room: &mut [u8],
+) -> Result<Answer, Refusal>
     requires { Asks request (length octets.now) }
 {
     match request {
@@ -128,25 +139,25 @@ fn ask(table: Table, clock: Clock, request: Request, octets: &[u8], room: &mut [
 fn tell(
     rt: &impl Print,
     desk: Desk,
+    before: Table,
+    refusal: u8,
     answer: Answer,
     request: Request,
     octets: &[u8],
     room: &[u8],
     out: &mut [u8; 65536],
 ) -> usize
-    requires { (desk.used ≤ 65536) × (length room.now ≤ 4096) × Asks request (length octets.now) }
+    requires { (length room.now ≤ 4096) × Asks request (length octets.now) }
     ensures { result ≤ 65536 }
 {
-    let n = reply_end(room, answer.length);
-    if room.len() < n {
+    let Some(reply) = reply_in(room, answer.length) else {
         return texts::put_touched(rt, out, desk.used, desk.explains);
-    }
-    let reply = &room[0..n];
+    };
     let at = texts::cleared(rt, out, desk.used);
     let next = answers::put_answer(
         out,
         at,
-        answer.refusal,
+        refusal,
         reply,
         answer.notice,
         answer.flags,
@@ -160,31 +171,31 @@ fn tell(
         next,
         request,
         octets,
-        answer.refusal,
+        refusal,
         reply,
-        desk.table.slots,
+        before.slots,
         answer.table.slots,
     )
 }
 
-// One event with a room.
+// One event on a table, with a room.
 fn respond(
     rt: &impl Print,
     mut desk: Desk,
+    table: Table,
     clock: Clock,
     request: Request,
     octets: &[u8],
     room: &mut [u8],
     out: &mut [u8; 65536],
 ) -> Desk
-    requires { (desk.used ≤ 65536) × (length room.old ≤ 4096) × Asks request (length octets.now) }
-    ensures { result.used ≤ 65536 }
+    requires { (length room.old ≤ 4096) × Asks request (length octets.now) }
 {
-    let answer = ask(desk.table, clock, request, octets, room);
-    let used = tell(rt, desk, answer, request, octets, room, out);
-    let table = answer.table;
-    desk.table = table;
-    desk.used = used;
+    let answer = ask(table, clock, request, octets, room);
+    let refusal = number_of(&answer);
+    let answer = answer.unwrap_or(nothing(table));
+    desk.used = tell(rt, desk, table, refusal, answer, request, octets, room, out);
+    desk.table = Some(answer.table);
     desk
 }
 
@@ -197,94 +208,74 @@ fn handle(
     octets: &[u8],
     out: &mut [u8; 65536],
 ) -> Desk
-    requires { (desk.used ≤ 65536) × Asks request (length octets.now) }
-    ensures { result.used ≤ 65536 }
+    requires { Asks request (length octets.now) }
 {
-    if !desk.live {
+    let Some(table) = desk.table else {
         desk.used = texts::put_no_table(rt, out, desk.used, desk.explains);
         return desk;
-    }
+    };
     let mut room = [PATTERN; 4096];
     let n = lent(clock.room);
-    respond(rt, desk, clock, request, octets, &mut room[0..n], out)
+    respond(rt, desk, table, clock, request, octets, &mut room[..n], out)
 }
 
 // A save with a room; what lies behind the form must be untouched.
-fn store(rt: &impl Print, desk: Desk, room: &mut [u8], out: &mut [u8; 65536]) -> usize
-    requires { (desk.used ≤ 65536) × (length room.old ≤ 4096) }
+fn store(rt: &impl Print, desk: Desk, table: Table, room: &mut [u8], out: &mut [u8; 65536]) -> usize
+    requires { (length room.old ≤ 4096) }
     ensures { result ≤ 65536 }
 {
-    let saved = saved::save(desk.table, room);
-    let n = reply_end(room, saved.length);
-    if room.len() < n {
+    let saved = saved::save(table, room);
+    let Some(form) = reply_in(room, saved.unwrap_or(0)) else {
         return texts::put_touched(rt, out, desk.used, desk.explains);
-    }
-    texts::put_saved(
-        rt,
-        out,
-        desk.used,
-        saved.refusal,
-        &room[0..n],
-        desk.explains,
-    )
+    };
+    texts::put_saved(rt, out, desk.used, number_of(&saved), form, desk.explains)
 }
 
 // A save, in a room with the pattern in all of it.
 fn keep(rt: &impl Print, desk: Desk, size: u64, out: &mut [u8; 65536]) -> usize
-    requires { desk.used ≤ 65536 }
     ensures { result ≤ 65536 }
 {
-    if !desk.live {
+    let Some(table) = desk.table else {
         return texts::put_no_table(rt, out, desk.used, desk.explains);
-    }
+    };
     let mut room = [PATTERN; 4096];
     let n = lent(size);
-    store(rt, desk, &mut room[0..n], out)
+    store(rt, desk, table, &mut room[..n], out)
 }
 
 // A start from two lists.
-fn start(ranges: List, pairs: List) -> Started
+fn start(ranges: List, pairs: List) -> Result<Table, Refusal>
     requires { (ranges.n ≤ 64) × (pairs.n ≤ 64) }
 {
-    let r = ranges.n;
-    let p = pairs.n;
-    let first = ranges.numbers;
-    let second = pairs.numbers;
-    control::start(&first[0..r], &second[0..p])
+    control::start(&ranges.numbers[..ranges.n], &pairs.numbers[..pairs.n])
 }
 
 // What a start or a reload answers, with a note for each case; a refused one leaves no table.
 fn open(
     rt: &impl Print,
     mut desk: Desk,
-    started: Started,
+    started: Result<Table, Refusal>,
     accepted: &[u8],
     refused: &[u8],
     out: &mut [u8; 65536],
 ) -> Desk
-    requires { (desk.used ≤ 65536) × (length accepted.now ≤ 64) × (length refused.now ≤ 64) }
-    ensures { result.used ≤ 65536 }
+    requires { (length accepted.now ≤ 64) × (length refused.now ≤ 64) }
 {
     desk.used = texts::put_opened(
         rt,
         out,
         desk.used,
-        started.refusal,
+        number_of(&started),
         desk.explains,
         accepted,
         refused,
     );
-    let table = started.table;
-    desk.table = table;
-    desk.live = started.refusal == 0;
+    desk.table = started.ok();
     desk
 }
 
 // A line that begins with `start`.
-fn begin(rt: &impl Print, mut desk: Desk, line: &[u8], out: &mut [u8; 65536]) -> Desk
-    requires { desk.used ≤ 65536 }
-    ensures { result.used ≤ 65536 }
-{
+fn begin(rt: &impl Print, mut desk: Desk, line: &[u8], out: &mut [u8; 65536]) -> Desk {
     let Some(lists) = script::read_lists(line) else {
         desk.used = texts::put_bad_line(rt, out, desk.used, line, desk.explains);
         return desk;
@@ -301,8 +292,7 @@ fn begin(rt: &impl Print, mut desk: Desk, line: &[u8], out: &mut [u8; 65536]) ->
 
 // A saved form in place of a start.
 fn restore(rt: &impl Print, desk: Desk, octets: &[u8], n: usize, out: &mut [u8; 65536]) -> Desk
-    requires { (desk.used ≤ 65536) × (n ≤ length octets.now) }
-    ensures { result.used ≤ 65536 }
+    requires { (n ≤ length octets.now) }
 {
     open(
         rt,
@@ -331,10 +321,7 @@ fn take(
     line: &[u8],
     octets: &mut [u8; 4096],
     out: &mut [u8; 65536],
-) -> Desk
-    requires { desk.used ≤ 65536 }
-    ensures { result.used ≤ 65536 }
-{
+) -> Desk {
     match read(line, octets) {
         None => desk.filled(number::answer(rt, out, desk.used, line, octets, desk.explains)),
         Some(Line::Start) => begin(rt, desk, line, out),
@@ -353,33 +340,16 @@ fn serve(
     octets: &mut [u8; 4096],
     out: &mut [u8; 65536],
 ) -> Desk
-    requires { (desk.used ≤ 65536) × (whole ≤ length input.now) }
-    ensures { result.used ≤ 65536 }
+    requires { (whole ≤ length input.now) }
 {
-    let mut at: usize = 0;
-    while at < whole {
-        let end = script::place_of(b'\n', input, at);
-        desk = take(rt, desk, &input[at..end], octets, out);
-        at = end + 1;
+    for line in input[..whole].split(|octet| *octet == b'\n') {
+        desk = take(rt, desk, line, octets, out);
     }
     desk
 }
 
-// How many chunks may follow: none behind the input's end, and none if the answers could not be written.
-fn chunks_left(left: u64, is_open: bool, is_written: bool) -> u64
-    requires { 0 < left }
-    ensures { result < left }
-{
-    if !is_open {
-        return 0;
-    }
-    if !is_written {
-        return 0;
-    }
-    left - 1
-}
-
-// All of the script. A proved loop has to end, and nothing says that the input does: so it counts down, from a number that no run uses up.
+// All of the script, until the input ends or the answers cannot be written. A proved loop has to end, and nothing says that the
+// input does: so it counts to a number that no run reaches.
 fn run(
     rt: &impl Print,
     source: &mut impl Read,
@@ -390,12 +360,14 @@ fn run(
 ) {
     let mut desk = Desk::new(explains);
     let mut chunk = Chunk::none();
-    let mut left: u64 = 1099511627776;
-    while left > 0 {
+    for _ in 0..1099511627776u64 {
         chunk = lines::next(source, input, chunk);
         desk = serve(rt, desk, input, chunk.whole, octets, out);
-        left = chunks_left(left, chunk.open, texts::flush(rt, out, desk.used));
-        desk.used = 0;
+        let is_written = texts::flush(rt, out, desk.used);
+        if !chunk.open || !is_written {
+            return;
+        }
+        desk = desk.filled(0);
     }
 }
 
@@ -403,7 +375,7 @@ fn run(
 fn asks_to_explain(rt: &impl Env) -> bool {
     let mut word = [0u8; 4096];
     match rt.arg(1, &mut word) {
-        Ok(n) => octets::same(&word[..n], b"explain"),
+        Ok(n) => &word[..n] == b"explain".as_slice(),
         Err(_) => false,
     }
 }

@@ -1,5 +1,5 @@
 // Whose number is shown: a line `shown MESSAGE RECORD` and its answer, at a place of the output. It needs no table.
-//   show, show_front     which part of a message or of a record is shown
+//   show                 which part of a message or of a record is shown
 //   ask, answer          a line
 // Each answers the place behind what it writes.
 ghost use Rattle.std.specs.Prelude.{◌≤◌, ◌<◌, length};
@@ -7,12 +7,12 @@ ghost use Rattle.std.specs.Prelude.{◌≤◌, ◌<◌, length};
 use crate::texts;
 
 // Which part of a message or of a record is shown, and in words if answers are explained.
-fn show<'a>(
+fn show(
     rt: &impl Print,
     out: &mut [u8; 65536],
     at: usize,
-    message: &'a [u8],
-    subscription: &'a [u8],
+    message: &[u8],
+    subscription: &[u8],
     explains: bool,
 ) -> usize
     requires { (at ≤ 65536) × (length message.now ≤ 4096) × (length subscription.now ≤ 4096) }
@@ -26,23 +26,6 @@ fn show<'a>(
         return next;
     }
     display::put_words(out, next, extent)
-}
-
-// The same of the first octets of two buffers.
-fn show_front<'a>(
-    rt: &impl Print,
-    out: &mut [u8; 65536],
-    at: usize,
-    octets: &'a [u8],
-    n: usize,
-    subscription: &'a [u8],
-    k: usize,
-    explains: bool,
-) -> usize
-    requires { (at ≤ 65536) × (n ≤ length octets.now) × (n ≤ 4096) × (k ≤ length subscription.now) × (k ≤ 4096) }
-    ensures { result ≤ 65536 }
-{
-    show(rt, out, at, &octets[0..n], &subscription[0..k], explains)
 }
 
 // A line whose MESSAGE ends at place `second`, where its RECORD begins behind a blank.
@@ -65,7 +48,7 @@ fn ask(
     let Some(k) = script::read_octets(&line[second + 1..], &mut record) else {
         return texts::put_bad_line(rt, out, at, line, explains);
     };
-    show_front(rt, out, at, octets, n, &record, k, explains)
+    show(rt, out, at, &octets[..n], &record[..k], explains)
 }
 
 // A line that is no event's: one that asks whose number is shown, or one that cannot be read.

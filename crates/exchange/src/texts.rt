@@ -40,17 +40,15 @@ fn put(
     let first = cleared(rt, out, at);
     let next = octets::put(out, first, text);
     if explains {
-        return octets::put(out, next, note);
+        octets::put(out, next, note)
+    } else {
+        next
     }
-    next
 }
 
 // If a line gets no answer: it is empty or a comment.
 fn is_skipped(line: &[u8]) -> bool {
-    if line.len() == 0 {
-        return true;
-    }
-    line[0] == b'#'
+    matches!(line.first(), None | Some(b'#'))
 }
 
 pub(crate) fn put_bad_line(
@@ -128,9 +126,10 @@ pub(crate) fn put_opened(
     ensures { result ≤ 65536 }
 {
     if refusal == 0 {
-        return put(rt, out, at, b"0 - 0 - 0\n", explains, accepted);
+        put(rt, out, at, b"0 - 0 - 0\n", explains, accepted)
+    } else {
+        put(rt, out, at, b"9 - 0 - 0\n", explains, refused)
     }
-    put(rt, out, at, b"9 - 0 - 0\n", explains, refused)
 }
 
 // How many octets were saved.

@@ -8,85 +8,96 @@ ghost use Rattle.octets.specs.Octets.{Wrote};
 ghost use Rattle.ascii.specs.Ascii.{decimal_text};
 ghost use Rattle.elements.specs.Values.{cause_in};
 ghost use Rattle.script.specs.Lines.{Asks};
-ghost use Rattle.explain.specs.Names.{name_in, refusal_names};
-ghost use Rattle.explain.specs.Line.{kind_text, cause_text, flag_text, header_text, found_text, message_text, clear_text, request_text, reply_text, timer_text, call_text, slot_text, same_due, same_state, is_same, is_about, change_text, note_text, slots_text, line_text};
+ghost use Rattle.explain.specs.Names.{name_in, kind_names, cause_names, refusal_names};
+ghost use Rattle.explain.specs.Line.{kind_text, cause_text, flag_text, header_text, found_text, message_text, clear_text, request_text, reply_text, timer_text, call_text, slot_text, same_state, is_same, is_about, change_text, note_text, slots_text, line_text};
 
-use calls::{Call, Due, Hold, Slot, State};
+use calls::{Call, Hold, Slot, State};
 use elements::Read;
 use header::Header;
 use script::Request;
-use slots::{SLOTS, Slots};
+use slots::Slots;
 
-// Tables of names: in each line the number is the first octet, and the name follows.
-const KIND_NAMES: [u8; 135] = *b"\x02CALL PROCEEDING\n\
-    \x05SETUP\n\
-    \x07CONNECT\n\
-    \x0FCONNECT ACKNOWLEDGE\n\
-    \x46RESTART\n\
-    \x4DRELEASE\n\
-    \x4ERESTART ACKNOWLEDGE\n\
-    \x5ARELEASE COMPLETE\n\
-    \x75STATUS ENQUIRY\n\
-    \x7DSTATUS\n";
-
-const CAUSE_NAMES: [u8; 865] = *b"\x01 unallocated (unassigned) number\n\
-    \x03 no route to destination\n\
-    \x10 normal call clearing\n\
-    \x11 user busy\n\
-    \x12 no user responding\n\
-    \x15 call rejected\n\
-    \x16 number changed\n\
-    \x1B destination out of order\n\
-    \x1C invalid number format\n\
-    \x1E response to STATUS ENQUIRY\n\
-    \x1F normal, unspecified\n\
-    \x29 temporary failure\n\
-    \x2D no VPCI/VCI available\n\
-    \x2F resource unavailable, unspecified\n\
-    \x31 Quality of Service unavailable\n\
-    \x39 bearer capability not authorized\n\
-    \x3A bearer capability not presently available\n\
-    \x3F service or option not available, unspecified\n\
-    \x41 bearer capability not implemented\n\
-    \x49 unsupported combination of traffic parameters\n\
-    \x51 invalid call reference value\n\
-    \x52 identified channel does not exist\n\
-    \x58 incompatible destination\n\
-    \x60 mandatory information element is missing\n\
-    \x61 message type non-existent or not implemented\n\
-    \x64 invalid information element contents\n\
-    \x65 message not compatible with call state\n\
-    \x66 recovery on timer expiry\n";
-
-const REFUSAL_NAMES: [u8; 459] = *b"\x01; refused: reply room under 1,024 octets\n\
-    \x02; refused: clock label not 1\n\
-    \x03; refused: reading too large\n\
-    \x04; refused: reading below the last accepted\n\
-    \x05; refused: message empty or over 1,024 octets\n\
-    \x06; refused: no call in this slot\n\
-    \x07; refused: wrong state\n\
-    \x08; refused: cause not in the host's list\n\
-    \x0A; refused: the body of the offer\n\
-    \x0B; refused: no empty slot\n\
-    \x0C; refused: no permitted pair free\n\
-    \x0D; refused: a RESTART of ours is under way, or the pair is not permitted\n";
-
-// The name that a number has in a table; nothing if it has none.
-fn put_name(out: &mut [u8], at: usize, table: &[u8], number: u8) -> usize
-    requires { at + length table.now ≤ length out.old }
-    ensures wrote { Wrote out.old at (name_in table.now number) out.new result }
-    ensures short { (at ≤ result) × (result ≤ at + length table.now) }
+// The name of a message type; nothing if it has none.
+#[tactic(auto, unfolding(crate::specs::Names::name_in, crate::specs::Names::kind_names))]
+fn kind_name(kind: u8) -> &'static [u8]
+    ensures name { result.now ≡ name_in kind_names kind }
+    ensures short { length result.now ≤ 50 }
 {
-    let mut from: usize = 0;
-    while from < table.len() {
-        let name = from + 1;
-        let end = script::place_of(b'\n', table, name);
-        if table[from] == number {
-            return octets::put(out, at, &table[name..end]);
-        }
-        from = end + 1;
+    match kind {
+        0x02 => b"CALL PROCEEDING",
+        0x05 => b"SETUP",
+        0x07 => b"CONNECT",
+        0x0F => b"CONNECT ACKNOWLEDGE",
+        0x46 => b"RESTART",
+        0x4D => b"RELEASE",
+        0x4E => b"RESTART ACKNOWLEDGE",
+        0x5A => b"RELEASE COMPLETE",
+        0x75 => b"STATUS ENQUIRY",
+        0x7D => b"STATUS",
+        _ => b"",
     }
-    at
+}
+
+// The name of a cause; nothing if it has none.
+#[tactic(auto, unfolding(crate::specs::Names::name_in, crate::specs::Names::cause_names))]
+fn cause_name(cause: u8) -> &'static [u8]
+    ensures name { result.now ≡ name_in cause_names cause }
+    ensures short { length result.now ≤ 50 }
+{
+    match cause {
+        0x01 => b" unallocated (unassigned) number",
+        0x03 => b" no route to destination",
+        0x10 => b" normal call clearing",
+        0x11 => b" user busy",
+        0x12 => b" no user responding",
+        0x15 => b" call rejected",
+        0x16 => b" number changed",
+        0x1B => b" destination out of order",
+        0x1C => b" invalid number format",
+        0x1E => b" response to STATUS ENQUIRY",
+        0x1F => b" normal, unspecified",
+        0x29 => b" temporary failure",
+        0x2D => b" no VPCI/VCI available",
+        0x2F => b" resource unavailable, unspecified",
+        0x31 => b" Quality of Service unavailable",
+        0x39 => b" bearer capability not authorized",
+        0x3A => b" bearer capability not presently available",
+        0x3F => b" service or option not available, unspecified",
+        0x41 => b" bearer capability not implemented",
+        0x49 => b" unsupported combination of traffic parameters",
+        0x51 => b" invalid call reference value",
+        0x52 => b" identified channel does not exist",
+        0x58 => b" incompatible destination",
+        0x60 => b" mandatory information element is missing",
+        0x61 => b" message type non-existent or not implemented",
+        0x64 => b" invalid information element contents",
+        0x65 => b" message not compatible with call state",
+        0x66 => b" recovery on timer expiry",
+        _ => b"",
+    }
+}
+
+// Why an event was refused; nothing if it was not.
+#[tactic(auto, unfolding(crate::specs::Names::name_in, crate::specs::Names::refusal_names))]
+fn refusal_name(refusal: u8) -> &'static [u8]
+    ensures name { result.now ≡ name_in refusal_names refusal }
+    ensures short { length result.now ≤ 80 }
+{
+    match refusal {
+        0x01 => b"; refused: reply room under 1,024 octets",
+        0x02 => b"; refused: clock label not 1",
+        0x03 => b"; refused: reading too large",
+        0x04 => b"; refused: reading below the last accepted",
+        0x05 => b"; refused: message empty or over 1,024 octets",
+        0x06 => b"; refused: no call in this slot",
+        0x07 => b"; refused: wrong state",
+        0x08 => b"; refused: cause not in the host's list",
+        0x0A => b"; refused: the body of the offer",
+        0x0B => b"; refused: no empty slot",
+        0x0C => b"; refused: no permitted pair free",
+        0x0D => b"; refused: a RESTART of ours is under way, or the pair is not permitted",
+        _ => b"",
+    }
 }
 
 // A message type.
@@ -95,9 +106,9 @@ fn put_kind(out: &mut [u8], at: usize, kind: u8) -> usize
     ensures wrote { Wrote out.old at (kind_text kind) out.new result }
     ensures short { (at ≤ result) × (result ≤ at + 200) }
 {
-    let end = put_name(out, at, &KIND_NAMES, kind);
-    if at < end {
-        return end;
+    let name = kind_name(kind);
+    if !name.is_empty() {
+        return octets::put(out, at, name);
     }
     let next = octets::put(out, at, b"message type ");
     ascii::put_octet(out, next, kind)
@@ -111,7 +122,7 @@ fn put_cause(out: &mut [u8], at: usize, cause: u8) -> usize
 {
     let next = octets::put(out, at, b" cause ");
     let end = ascii::put_octet(out, next, cause);
-    put_name(out, end, &CAUSE_NAMES, cause)
+    octets::put(out, end, cause_name(cause))
 }
 
 // A message type with its flag and call reference.
@@ -130,10 +141,15 @@ fn put_flag(out: &mut [u8], at: usize, flag: bool) -> usize
     ensures wrote { Wrote out.old at (flag_text flag) out.new result }
     ensures short { (at ≤ result) × (result ≤ at + 20) }
 {
-    if flag {
-        return octets::put(out, at, b" flag 1 reference ");
-    }
-    octets::put(out, at, b" flag 0 reference ")
+    octets::put(
+        out,
+        at,
+        if flag {
+            b" flag 1 reference "
+        } else {
+            b" flag 0 reference "
+        },
+    )
 }
 
 // The cause that a message says.
@@ -180,9 +196,10 @@ fn put_wide_cause(out: &mut [u8], at: usize, cause: u64) -> usize
     ensures short { (at ≤ result) × (result ≤ at + 1100) }
 {
     if cause < 128 {
-        return put_cause(out, at, cause as u8);
+        put_cause(out, at, cause as u8)
+    } else {
+        octets::put(out, at, b" no cause")
     }
-    octets::put(out, at, b" no cause")
 }
 
 // What came in.
@@ -209,22 +226,13 @@ fn put_request(out: &mut [u8], at: usize, request: Request, came: &[u8]) -> usiz
     }
 }
 
-// Why an event was refused.
-fn put_refusal(out: &mut [u8], at: usize, refusal: u8) -> usize
-    requires { at + 500 ≤ length out.old }
-    ensures wrote { Wrote out.old at (name_in refusal_names refusal) out.new result }
-    ensures short { (at ≤ result) × (result ≤ at + 500) }
-{
-    put_name(out, at, &REFUSAL_NAMES, refusal)
-}
-
 // What went out.
 fn put_reply(out: &mut [u8], at: usize, reply: &[u8]) -> usize
     requires { at + 1370 ≤ length out.old }
     ensures wrote { Wrote out.old at (reply_text reply.now) out.new result }
     ensures short { (at ≤ result) × (result ≤ at + 1370) }
 {
-    if reply.len() == 0 {
+    if reply.is_empty() {
         return at;
     }
     let next = octets::put(out, at, b"; out ");
@@ -238,10 +246,9 @@ fn put_timer(out: &mut [u8], at: usize, state: State) -> usize
     ensures short { (at ≤ result) × (result ≤ at + 40) }
 {
     match state {
-        State::N3 => at,
+        State::N3 | State::N10 => at,
         State::N6(deadline) => put_labelled(out, at, b" T303 until ", deadline),
         State::N9(deadline) => put_labelled(out, at, b" T310 until ", deadline),
-        State::N10 => at,
         State::N12(_, deadline) => put_labelled(out, at, b" T308 until ", deadline),
     }
 }
@@ -253,8 +260,8 @@ fn put_call(out: &mut [u8], at: usize, call: Call, state: State) -> usize
     ensures short { (at ≤ result) × (result ≤ at + 160) }
 {
     let stated = put_labelled(out, at, b" N", state.number() as u64);
-    let half = put_labelled(out, stated, b" VPCI ", call.vpci as u64);
-    let paired = put_labelled(out, half, b" VCI ", call.vci as u64);
+    let half = put_labelled(out, stated, b" VPCI ", call.pair.vpci as u64);
+    let paired = put_labelled(out, half, b" VCI ", call.pair.vci as u64);
     put_timer(out, paired, state)
 }
 
@@ -263,8 +270,7 @@ fn put_slot(out: &mut [u8], at: usize, slot: Slot) -> usize
     ensures wrote { Wrote out.old at (slot_text slot) out.new result }
     ensures short { (at ≤ result) × (result ≤ at + 160) }
 {
-    let hold = slot.hold;
-    match hold {
+    match slot.hold {
         Hold::Empty => octets::put(out, at, b" empty"),
         Hold::Live(call, state) => put_call(out, at, call, state),
     }
@@ -282,47 +288,22 @@ fn put_change(out: &mut [u8], at: usize, i: usize, before: Slot, after: Slot) ->
     put_slot(out, to, after)
 }
 
-fn same_due(a: Due, b: Due) -> bool
-    ensures { result ≡ same_due a b }
-{
-    match a {
-        Due::Never => match b {
-            Due::Never => true,
-            Due::At(_) => false,
-        },
-        Due::At(first) => match b {
-            Due::Never => false,
-            Due::At(second) => first == second,
-        },
-    }
-}
-
 fn same_state(a: State, b: State) -> bool
     ensures { result ≡ same_state a b }
 {
-    if a.number() != b.number() {
-        return false;
-    }
-    same_due(a.due(), b.due())
+    a.number() == b.number() && a.due() == b.due()
 }
 
 // If a slot holds the same call in the same state.
 fn is_same(a: Slot, b: Slot) -> bool
     ensures { result ≡ is_same a b }
 {
-    let first = a.hold;
-    let second = b.hold;
-    match first {
-        Hold::Empty => b.is_empty(),
-        Hold::Live(call, state) => match second {
-            Hold::Empty => false,
-            Hold::Live(_, later) => {
-                if b.is_call(call.network, call.reference) {
-                    return same_state(state, later);
-                }
-                false
-            }
-        },
+    match (a.hold, b.hold) {
+        (Hold::Empty, _) => b.is_empty(),
+        (Hold::Live(call, state), Hold::Live(_, later)) => {
+            b.is_call(call.network, call.reference) && same_state(state, later)
+        }
+        (Hold::Live(..), Hold::Empty) => false,
     }
 }
 
@@ -332,16 +313,11 @@ fn is_about(request: Request, came: &[u8], i: usize, slot: Slot) -> bool
     ensures { result ≡ is_about request came.now i slot }
 {
     match request {
-        Request::Tick => false,
         Request::Message(n) => {
             header::read(&came[..n]).is_some_and(|head| slot.is_call(head.flag, head.reference))
         }
-        Request::Connect(number) => number == i as u64,
-        Request::Clear(number, _) => number == i as u64,
-        Request::Offer(_) => false,
-        Request::RestartAll => false,
-        Request::RestartOne(_, _) => false,
-        Request::PutBack => false,
+        Request::Connect(number) | Request::Clear(number, _) => number == i as u64,
+        _ => false,
     }
 }
 
@@ -351,13 +327,11 @@ fn put_if(out: &mut [u8], at: usize, i: usize, before: Slot, after: Slot, about:
     ensures wrote { Wrote out.old at (note_text i before after about) out.new result }
     ensures short { (at ≤ result) × (result ≤ at + 370) }
 {
-    if about {
-        return put_change(out, at, i, before, after);
+    if about || !is_same(before, after) {
+        put_change(out, at, i, before, after)
+    } else {
+        at
     }
-    if is_same(before, after) {
-        return at;
-    }
-    put_change(out, at, i, before, after)
 }
 
 // The slots that the event is about or that it changed.
@@ -374,13 +348,9 @@ fn put_slots(
     ensures short { (at ≤ result) × (result ≤ at + 11840) }
 {
     let mut next = at;
-    let mut i: usize = 0;
-    while i < SLOTS {
-        let first = before.all[i];
-        let second = after.all[i];
-        let about = is_about(request, came, i, first);
-        next = put_if(out, next, i, first, second, about);
-        i += 1;
+    for (i, slot) in before.all.iter().enumerate() {
+        let about = is_about(request, came, i, *slot);
+        next = put_if(out, next, i, *slot, after.all[i], about);
     }
     next
 }
@@ -402,7 +372,7 @@ pub fn put_line(
 {
     let first = octets::put(out, at, b"# in ");
     let asked = put_request(out, first, request, came);
-    let refused = put_refusal(out, asked, refusal);
+    let refused = octets::put(out, asked, refusal_name(refusal));
     let replied = put_reply(out, refused, reply);
     let changed = put_slots(out, replied, request, came, before, after);
     octets::put(out, changed, b"\n")

@@ -21,7 +21,7 @@ fn put_two(room: &mut [u8], at: usize, n: u16) -> usize
     requires { at + 2 ≤ length room.old }
     ensures { Wrote room.old at (two n) room.new result }
 {
-    octets::put(room, at, &[(n / 256 % 256) as u8, (n % 256) as u8])
+    octets::put(room, at, &n.to_be_bytes())
 }
 
 // A number in four octets: of the number of a pair these are VPCI and VCI.
@@ -30,17 +30,7 @@ pub fn put_four(room: &mut [u8], at: usize, n: u32) -> usize
     ensures wrote { Wrote room.old at (four n) room.new result }
     ensures short { result ≡ at + 4 }
 {
-    let a = n / 65536;
-    octets::put(
-        room,
-        at,
-        &[
-            (a / 256 % 256) as u8,
-            (a % 256) as u8,
-            (n / 256 % 256) as u8,
-            (n % 256) as u8,
-        ],
-    )
+    octets::put(room, at, &n.to_be_bytes())
 }
 
 // A number in eight octets.
@@ -49,23 +39,7 @@ pub fn put_eight(room: &mut [u8], at: usize, n: u64) -> usize
     ensures wrote { Wrote room.old at (eight n) room.new result }
     ensures next { result ≡ at + length (eight n) }
 {
-    let a = n / 281474976710656;
-    let b = n / 4294967296;
-    let c = n / 65536;
-    octets::put(
-        room,
-        at,
-        &[
-            (a / 256 % 256) as u8,
-            (a % 256) as u8,
-            (b / 256 % 256) as u8,
-            (b % 256) as u8,
-            (c / 256 % 256) as u8,
-            (c % 256) as u8,
-            (n / 256 % 256) as u8,
-            (n % 256) as u8,
-        ],
-    )
+    octets::put(room, at, &n.to_be_bytes())
 }
 
 // A tag, the length of the contents, the contents.
@@ -74,9 +48,7 @@ pub fn put_field(room: &mut [u8], at: usize, tag: u8, contents: &[u8]) -> usize
     ensures wrote { Wrote room.old at (field tag contents.now) room.new result }
     ensures next { result ≡ at + length (field tag contents.now) }
 {
-    let size = contents.len();
-    let high = (size / 256 % 256) as u8;
-    let low = (size % 256) as u8;
+    let [.., high, low] = contents.len().to_be_bytes();
     let next = octets::put(room, at, &[tag, high, low]);
     octets::put(room, next, contents)
 }
@@ -137,11 +109,8 @@ fn put_reference(room: &mut [u8], at: usize, network: bool, reference: u32) -> u
     requires { at + 3 ≤ length room.old }
     ensures { Wrote room.old at (reference_octets network reference) room.new result }
 {
-    let top = (reference / 65536 % 128) as u8;
-    let first = side_bit(network) + top;
-    let high = (reference / 256 % 256) as u8;
-    let low = (reference % 256) as u8;
-    octets::put(room, at, &[first, high, low])
+    let [_, top, high, low] = reference.to_be_bytes();
+    octets::put(room, at, &[side_bit(network) + top % 128, high, low])
 }
 
 // The number of a state, and the deadline of its timer.

@@ -16,7 +16,7 @@ use Rattle.octets.proofs.Cases.{by_test}
 use Rattle.traffic.proofs.Walk.{walk_on}
 use Rattle.items.specs.declared.Item.{Item}
 use Rattle.items.specs.declared.Item.TheVariants.{End, Overrun, Whole}
-use Rattle.items.specs.Items.{content_length, item_at, and_then, item_step, items, first_of}
+use Rattle.items.specs.Items.{content_length, item_at, and_then, item_step, items, Inside, first_of}
 
 -- an element at place at, among l octets, ends where it may
 abbrev pub Moves : ℕ → ℕ → Item → Type 0
@@ -53,12 +53,6 @@ met m at e = rw e (items_on m at)
 
 pub moved : (m : List ℕ) (at : ℕ) {i : Item} → i ≡ item_at m at → Moves at (length m) i
 moved m at e = rw e (moves m at)
-
--- the contents of an item lie within l octets
-abbrev pub Inside : ℕ → Item → Type 0
-Inside l End = Unit {0}
-Inside l (Overrun id) = Unit {0}
-Inside l (Whole id action start end) = (start ≤ end) × (end ≤ l)
 
 inside_cond : (l : ℕ) (t : Bool) (i j : Item) → Inside l i → Inside l j → Inside l (cond t i j)
 inside_cond l true i j a b = a

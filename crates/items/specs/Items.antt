@@ -3,10 +3,10 @@
 --   item_at                   the element at a place
 --   and_then, item_step, items     one element and what follows it; the elements from a place on
 --   named                    has an element this identifier?
---   first_of, count_of         the first element of an identifier; how many there are
+--   first_of, Inside, count_of   the first element of an identifier; its contents lie within the octets; how many there are
 --   ends_whole, whole_from     are the octets a whole number of elements?
 -- A message's elements start at place 9, those of an offer's body at 0. Assumes nothing.
-use Rattle.std.specs.Prelude.{ℕ, ◌+◌, ◌-◌, Bool, false, cond, List, [], ◌∷◌, eqb, ltb, length, get_or}
+use Rattle.std.specs.Prelude.{ℕ, ◌+◌, ◌-◌, ◌≤◌, Bool, false, cond, List, [], ◌∷◌, eqb, ltb, length, get_or}
 use Rattle.octets.specs.Octets.{number}
 use Rattle.traffic.specs.Walk.{walk}
 use Rattle.items.specs.declared.Item.{Item}
@@ -48,6 +48,12 @@ named id (Whole met action start end) = eqb met id
 abbrev pub first_of : ℕ → List Item → Item
 first_of id [] = End
 first_of id (i ∷ is) = cond (named id i) i (first_of id is)
+
+-- the contents of an item lie within l octets
+abbrev pub Inside : ℕ → Item → Type 0
+Inside l End = Unit {0}
+Inside l (Overrun id) = Unit {0}
+Inside l (Whole id action start end) = (start ≤ end) × (end ≤ l)
 
 abbrev pub count_of : ℕ → List Item → ℕ
 count_of id [] = 0

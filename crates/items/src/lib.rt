@@ -6,8 +6,8 @@
 // Nothing has a `requires`. Assumes nothing.
 #![tactic(auto, using(crate::proofs::Items::met, crate::proofs::Items::moved))]
 
-ghost use Rattle.std.specs.Prelude.{◌≡◌, ◌≤◌, cond, eqb};
-ghost use Rattle.items.specs.Items.{item_at, items, first_of, count_of, whole_from};
+ghost use Rattle.std.specs.Prelude.{◌≡◌, ◌≤◌, cond, eqb, length};
+ghost use Rattle.items.specs.Items.{item_at, items, Inside, first_of, count_of, whole_from};
 
 // What stands at a place: fewer than four octets, an element that overruns (its identifier),
 // or a whole one: its identifier, its octet 2, and the start and end of its contents.
@@ -33,8 +33,10 @@ pub fn item_at(m: &[u8], at: usize) -> Item
 }
 
 // The first element of an identifier, `End` where there is none.
+#[tactic(auto, using(crate::proofs::Items::met, crate::proofs::Items::moved, crate::proofs::Items::first_within))]
 pub fn first_of(m: &[u8], from: usize, id: u8) -> Item
-    ensures { result ≡ first_of id (items m.now from) }
+    ensures value { result ≡ first_of id (items m.now from) }
+    ensures inside { Inside (length m.now) result }
 {
     let mut at = from;
     loop {

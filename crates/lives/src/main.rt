@@ -7,8 +7,10 @@
 
 ghost use Rattle.std.specs.Prelude.{◌≤◌, ◌<◌};
 
-use outcome::{Answer, Started};
-use std::io::{Read, Result};
+use outcome::Answer;
+use refusal::Refusal;
+use std::io;
+use std::io::Read;
 use table::Table;
 
 // A SETUP on reference 0; its elements are an offer's body too.
@@ -69,15 +71,13 @@ fn lists_of(number: u8) -> Lists
     }
 }
 
-fn started(lists: Lists) -> Started
+fn started(lists: Lists) -> Result<Table, Refusal>
     requires { (lists.ranges ≤ 12) × (lists.pairs ≤ 16) }
 {
-    let r = lists.ranges;
-    let p = lists.pairs;
     let last = lists.last;
     let ranges = [0, 32, last, 1, 32, last, 2, 32, last, 3, 32, last];
     let pairs = [0u16, 39, 0, 40, 1, 39, 1, 40, 2, 39, 2, 40, 3, 39, 3, 40];
-    control::start(&ranges[0..r], &pairs[0..p])
+    control::start(&ranges[..lists.ranges], &pairs[..lists.pairs])
 }
 
 // A table, and the lengths of the replies so far, added up modulo 1,000,000.
@@ -92,20 +92,14 @@ fn added(sum: u64, length: usize) -> u64 {
 }
 
 impl Life {
-    fn new(number: u8) -> Life {
-        let fresh = started(lists_of(number));
-        let table = fresh.table;
-        Life {
-            table: table,
-            sum: 0,
-        }
-    }
-
-    fn answered(self, answer: Answer) -> Life {
-        let table = answer.table;
-        Life {
-            table: table,
-            sum: added(self.sum, answer.length),
+    // A refused event changes nothing, and sends nothing.
+    fn answered(self, answer: Result<Answer, Refusal>) -> Life {
+        match answer {
+            Ok(answer) => Life {
+                table: answer.table,
+                sum: added(self.sum, answer.length),
+            },
+            Err(_) => self,
         }
     }
 
@@ -166,42 +160,36 @@ impl Life {
 
     // LIVE calls on references from 1.
     fn filled(mut self, live: u64, room: &mut [u8; 1024]) -> Life {
-        let mut i: u64 = 0;
-        while i < live {
+        for i in 0..live {
             self = self.set_up(((i + 1) % 256) as u8, room);
-            i += 1;
         }
         self
     }
 
     fn lived(mut self, kind: u8, live: u64, rounds: u64, room: &mut [u8; 1024]) -> Life {
-        let mut i: u64 = 0;
-        while i < rounds {
+        for _ in 0..rounds {
             self = self.of_kind(kind, live, room);
-            i += 1;
         }
         self
     }
 }
 
-fn wide(octet: u8) -> u64
-    ensures { result < 256 }
-{
-    octet as u64
-}
-
 // The sum of the replies' lengths, by the four octets of the input.
-fn sum_of(input: &[u8; 4]) -> u64 {
+fn sum_of(input: &[u8; 4]) -> Result<u64, Refusal> {
     let mut room = [0u8; 1024];
-    let live = wide(input[1]);
-    let mut life = Life::new(input[3]);
-    life = life.filled(live, &mut room);
-    life = life.lived(input[0], live, wide(input[2]) * 100, &mut room);
-    life.sum
+    let live = u64::from(input[1]);
+    let rounds = u64::from(input[2]) * 100;
+    let table = started(lists_of(input[3]))?;
+    let life = Life { table, sum: 0 };
+    Ok(
+        life.filled(live, &mut room)
+            .lived(input[0], live, rounds, &mut room)
+            .sum,
+    )
 }
 
 // Reads until the room is full or the input ends.
-fn read_full(input: &mut impl Read, room: &mut [u8]) -> Result<()> {
+fn read_full(input: &mut impl Read, room: &mut [u8]) -> io::Result<()> {
     let mut n: usize = 0;
     while n < room.len() {
         let got = input.read(&mut room[n..])?;
@@ -213,9 +201,11 @@ fn read_full(input: &mut impl Read, room: &mut [u8]) -> Result<()> {
     Ok(())
 }
 
-fn main(rt: HostRuntime) -> Result<()> {
+fn main(rt: HostRuntime) -> io::Result<()> {
     let mut input = [0u8; 4];
     read_full(&mut rt.stdin(), &mut input)?;
-    let sum = sum_of(&input);
-    println!(rt; "{sum}")
+    match sum_of(&input) {
+        Ok(sum) => println!(rt; "{sum}"),
+        Err(refusal) => println!(rt; "{refusal}"),
+    }
 }

@@ -1,5 +1,5 @@
--- What the reader answers, by its four tests.
---   no_lists, over_limit, not_kept, not_own      each refusal
+-- What the reader answers, by its tests.
+--   over_limit, not_kept, not_own                each refusal of a table whose lists are accepted
 --   all_pass                                     the table
 -- Over the number of slots; p is what start makes of the lists, t the table that is read. Assumes nothing.
 use Prim.Native.Nat.{ℕ}
@@ -13,7 +13,7 @@ use Rattle.table.specs.declared.Table.{Table}
 use Rattle.outcome.specs.Outcome.{Started}
 use Rattle.calls.specs.Timers.{largest_reading}
 use Rattle.saved.specs.Form.{form_of}
-use Rattle.reading.specs.Reading.{range_numbers, pair_numbers, table_with, table_in}
+use Rattle.reading.specs.Reading.{range_numbers, pair_numbers, table_with}
 use Rattle.rules.specs.Rules.{table_kept}
 use Rattle.reload.specs.Reload.{no_table, reload_in}
 
@@ -21,9 +21,6 @@ abbrev answer : Bool → Bool → Bool → Bool → Table → Started
 answer a b c d t = cond (a && (b && (c && d))) (record { refusal = 0; table = t }) no_table
 
 module _ (a b c d : Bool) (t : Table) where
-  first : a ≡ false → no_table ≡ answer a b c d t
-  first x = rw x
-
   second : a ≡ true → b ≡ false → no_table ≡ answer a b c d t
   second x y = rw (x, y)
 
@@ -50,11 +47,6 @@ module _ (count : ℕ) (f : List ℕ) where
   answered p t = answer p.accepted (reading t) (rules t) (own t) t
 
   module _ (p : Provision) (made : p ≡ provision (range_numbers f) (pair_numbers f)) where
-    pub no_lists : p.accepted ≡ false → no_table ≡ reload_in count f
-    no_lists e =
-        let t = table_in count f in
-        first p.accepted (reading t) (rules t) (own t) t e ∙ ap (λ (x : Provision). answered x t) made
-
     module _ (t : Table) (same : t ≡ table_with p.pool count f) (accepted : p.accepted ≡ true) where
       as_answer : answered p t ≡ reload_in count f
       as_answer = ap (answered p) same ∙ ap (λ (x : Provision). answered x (table_with x.pool count f)) made

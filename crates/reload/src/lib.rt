@@ -21,7 +21,7 @@ fn is_own(table: Table, form: &[u8]) -> bool
 {
     let mut own = [0u8; LONGEST];
     let n = saved::put_form(&mut own, 0, table);
-    octets::same(&own[..n], form)
+    &own[..n] == form
 }
 
 // The table of a form, or refusal 9.

@@ -13,6 +13,7 @@ use lib.Dec.{eqb}
 use lib.ListN.{length, take, drop, length-drop}
 use lib.Seq.{length-take-le, take-nil, take-length, drop-drop}
 use borrow.Author.Tests.{eqb-true}
+use Rattle.std.specs.Prelude.{Option, Some, None}
 use Rattle.octets.specs.Octets.{part}
 use Rattle.octets.proofs.Cases.{by_test}
 use Rattle.header.specs.Header.{head_of}
@@ -20,8 +21,6 @@ use Rattle.items.specs.declared.Item.{Item}
 use Rattle.items.specs.declared.Item.TheVariants.{End, Overrun, Whole}
 use Rattle.items.specs.Items.{items, named, first_of}
 use Rattle.items.proofs.Items.{first_within}
-use Rattle.shown.specs.declared.Found.{Found}
-use Rattle.shown.specs.declared.Found.TheVariants.{Nothing, Address}
 use Rattle.shown.specs.declared.Extent.{Extent}
 use Rattle.shown.specs.declared.Extent.TheVariants.{Message, Record}
 use Rattle.shown.specs.Calling.{calling_fits, address_at, allowed}
@@ -146,18 +145,18 @@ module _ (m s : List ℕ) where
       → extent_of m s ≡ Message (start + address_at (part m start end)) 0
   empty_part start end p q f a = rw (p, q, f, a)
 
-  or_record_lem : (f : Found) (at n : ℕ) → or_record s f ≡ Record at n → (at ≡ 0) × (n ≡ length s) × (octets_of m s (or_record s f) ≡ s)
-  or_record_lem Nothing at n e =
+  or_record_lem : (f : Option (ℕ × ℕ)) (at n : ℕ) → or_record s f ≡ Record at n → (at ≡ 0) × (n ≡ length s) × (octets_of m s (or_record s f) ≡ s)
+  or_record_lem None at n e =
       let l : (0 + length s) - 0 ≡ length s = omega arith in
       (sym (ap place_of e), sym (ap length_of e), rw l (take-length s))
-  or_record_lem (Address a k) at n e = absurd (true≢false (ap is_message e))
+  or_record_lem (Some (a, k)) at n e = absurd (true≢false (ap is_message e))
 
   record_whole : (at n : ℕ) → extent_of m s ≡ Record at n → (at ≡ 0) × (n ≡ length s) × (shown_of m s ≡ s)
   record_whole at n e = or_record_lem (calling_in m) at n e
 
-  told_by : (f : Found) → ((at n : ℕ) → f ≡ Address at n → at + n ≤ length m) → length (octets_of m s (or_record s f)) ≡ length_of (or_record s f)
-  told_by Nothing h = let l : (0 + length s) - 0 ≡ length s = omega arith in rw (l, take-length s)
-  told_by (Address at n) h =
+  told_by : (f : Option (ℕ × ℕ)) → ((at n : ℕ) → f ≡ Some (at, n) → at + n ≤ length m) → length (octets_of m s (or_record s f)) ≡ length_of (or_record s f)
+  told_by None h = let l : (0 + length s) - 0 ≡ length s = omega arith in rw (l, take-length s)
+  told_by (Some (at, n)) h =
       let e : (at + n) - at ≡ n = omega arith in
       rw e (length-take-le n (drop at m) (rw (length-drop at m) (omega (arith, h at n refl))))
 

@@ -14,8 +14,6 @@ use Rattle.header.specs.Header.{head_of}
 use Rattle.items.specs.declared.Item.{Item}
 use Rattle.items.specs.declared.Item.TheVariants.{End, Overrun, Whole}
 use Rattle.items.specs.Items.{items, first_of}
-use Rattle.shown.specs.declared.Found.{Found}
-use Rattle.shown.specs.declared.Found.TheVariants.{Nothing, Address}
 use Rattle.shown.specs.declared.Extent.{Extent}
 use Rattle.shown.specs.declared.Extent.TheVariants.{Message, Record}
 use Rattle.shown.specs.Calling.{calling_fits, address_at, allowed}
@@ -27,25 +25,25 @@ passes (Some h) = h.whole && eqb h.kind 0x05
 
 -- the address of readable contents `c`, which begin at place `start` of the message and end at its place `end`.
 -- "Any presentation but allowed shows the empty part of the message where the address begins."
-abbrev pub address_shown : List ℕ → ℕ → ℕ → Found
+abbrev pub address_shown : List ℕ → ℕ → ℕ → Option (ℕ × ℕ)
 address_shown c start end =
-    Address (start + address_at c) (cond (allowed c) (end - (start + address_at c)) 0)
+    Some (start + address_at c, cond (allowed c) (end - (start + address_at c)) 0)
 
 -- "and has a readable one": "octet 2 80", and readable contents; an element that overruns the message is unreadable
-abbrev pub read : List ℕ → Item → Found
-read m End = Nothing
-read m (Overrun id) = Nothing
+abbrev pub read : List ℕ → Item → Option (ℕ × ℕ)
+read m End = None
+read m (Overrun id) = None
 read m (Whole id action start end) =
-    cond (eqb action 0x80) (cond (calling_fits (part m start end)) (address_shown (part m start end) start end) Nothing) Nothing
+    cond (eqb action 0x80) (cond (calling_fits (part m start end)) (address_shown (part m start end) start end) None) None
 
 -- the calling number element is the first 6C
-abbrev pub calling_in : List ℕ → Found
-calling_in m = cond (passes (head_of m)) (read m (first_of 0x6C (items m 9))) Nothing
+abbrev pub calling_in : List ℕ → Option (ℕ × ℕ)
+calling_in m = cond (passes (head_of m)) (read m (first_of 0x6C (items m 9))) None
 
 -- "the address shown is a part of that message; otherwise it is a part of the subscription record, namely all of it as lent."
-abbrev pub or_record : List ℕ → Found → Extent
-or_record s Nothing = Record 0 (length s)
-or_record s (Address at n) = Message at n
+abbrev pub or_record : List ℕ → Option (ℕ × ℕ) → Extent
+or_record s None = Record 0 (length s)
+or_record s (Some (at, n)) = Message at n
 
 -- "Say which one and which octets."
 abbrev pub extent_of : List ℕ → List ℕ → Extent
@@ -68,9 +66,9 @@ beginning m s (Message at n) = (m.0, at + m.1)
 beginning m s (Record at n) = (s.0, at + s.1)
 
 -- what is shown of a message lies within its l octets
-abbrev pub Inside : ℕ → Found → Type 0
-Inside l Nothing = Unit {0}
-Inside l (Address at n) = at + n ≤ l
+abbrev pub Inside : ℕ → Option (ℕ × ℕ) → Type 0
+Inside l None = Unit {0}
+Inside l (Some (at, n)) = at + n ≤ l
 
 -- a part of a message of l octets, or of a record of k, lies within it
 abbrev pub Within : ℕ → ℕ → Extent → Type 0

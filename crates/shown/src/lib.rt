@@ -1,8 +1,8 @@
 // Whose number is shown to the called side: the calling number of a SETUP, or the lent subscription record.
 //   address_fits, calling_fits              6C Calling number: a readable address, readable contents
 //   address_at, is_allowed                  .. where its address begins, its presentation
-//   is_setup, number                        is a message to be looked at, and its calling number element
-//   Found, calling                          what a message shows of its calling number
+//   is_setup                                is a message to be looked at
+//   calling                                 what a message shows of its calling number
 //   Extent, locate                          which of the two is shown, where the part begins and how long it is
 //   shown                                   that part itself
 // `m` and `subscription` are any octets. Nothing is written, nothing is copied, nothing has a `requires`. Assumes nothing.
@@ -11,7 +11,6 @@
 ghost use Rattle.std.specs.Prelude.{◌≡◌, ◌∷◌, length};
 ghost use Rattle.mandatory.specs.Mandatory.{called_fits};
 ghost use Rattle.header.specs.Header.{head_of};
-ghost use Rattle.items.specs.Items.{items, first_of};
 ghost use Rattle.shown.specs.Calling.{calling_fits, address_at, allowed};
 ghost use Rattle.shown.specs.Shown.{passes, calling_in, extent_of, Inside, Within, shown_of, beginning};
 
@@ -22,19 +21,11 @@ use octets::octet_at;
 fn address_fits(kind: u8, address: &[u8]) -> bool
     ensures { result ≡ called_fits (kind ∷ address.now) }
 {
-    if kind == 0x91 {
-        if address.len() < 1 {
-            return false;
-        }
-        if 15 < address.len() {
-            return false;
-        }
-        return mandatory::digits_from(address, 0);
+    match kind {
+        0x91 => 1 <= address.len() && address.len() <= 15 && mandatory::digits_from(address, 0),
+        0x82 => address.len() == 20,
+        _ => false,
     }
-    if kind == 0x82 {
-        return address.len() == 20;
-    }
-    false
 }
 
 // Are these readable contents of 6C?
@@ -45,30 +36,21 @@ fn calling_fits(c: &[u8]) -> bool
     if 128 <= kind {
         return mandatory::called_fits(c);
     }
-    if octet_at(c, 1) < 128 {
-        return false;
-    }
-    address_fits(kind + 128, &c[2..])
+    128 <= octet_at(c, 1) && address_fits(kind + 128, &c[2..])
 }
 
 // Where the address begins in readable contents of 6C.
 fn address_at(c: &[u8]) -> usize
     ensures { result ≡ address_at c.now }
 {
-    if 128 <= octet_at(c, 0) {
-        return 1;
-    }
-    2
+    if 128 <= octet_at(c, 0) { 1 } else { 2 }
 }
 
 // Is presentation allowed?
 fn is_allowed(c: &[u8]) -> bool
     ensures { result ≡ allowed c.now }
 {
-    if 128 <= octet_at(c, 0) {
-        return true;
-    }
-    octet_at(c, 1) / 32 % 4 == 0
+    128 <= octet_at(c, 0) || octet_at(c, 1) / 32 % 4 == 0
 }
 
 // Is the message a SETUP that passes steps 1, 2 and 5?
@@ -78,45 +60,25 @@ fn is_setup(m: &[u8]) -> bool
     header::read(m).is_some_and(|head| head.whole && head.kind == 0x05)
 }
 
-// The calling number element: the first 6C, `End` where there is none.
-fn number(m: &[u8]) -> Item
-    ensures { result ≡ first_of 0x6C (items m.now 9) }
-{
-    items::first_of(m, 9, 0x6C)
-}
-
-// What a message shows of its calling number: nothing to go by, or so many octets of the message from a place on.
-#[derive(Clone, Copy)]
-enum Found {
-    Nothing,
-    Address(usize, usize),
-}
-
-fn calling(m: &[u8]) -> Found
+// What a message shows of its calling number: nothing to go by, or so many octets of the message from a place
+// on. Its calling number element is the first 6C.
+fn calling(m: &[u8]) -> Option<(usize, usize)>
     ensures value { result ≡ calling_in m.now }
     ensures inside { Inside (length m.now) result }
 {
     if !is_setup(m) {
-        return Found::Nothing;
+        return None;
     }
-    match number(m) {
-        Item::End => Found::Nothing,
-        Item::Overrun(_) => Found::Nothing,
-        Item::Whole(_, action, start, end) => {
-            if action != 0x80 {
-                return Found::Nothing;
-            }
-            let c = &m[start..end];
-            if !calling_fits(c) {
-                return Found::Nothing;
-            }
-            let at = start + address_at(c);
-            if is_allowed(c) {
-                return Found::Address(at, end - at);
-            }
-            Found::Address(at, 0)
-        }
+    let Item::Whole(_, 0x80, start, end) = items::first_of(m, 9, 0x6C) else {
+        return None;
+    };
+    let c = &m[start..end];
+    if !calling_fits(c) {
+        return None;
     }
+    let at = start + address_at(c);
+    let size = if is_allowed(c) { end - at } else { 0 };
+    Some((at, size))
 }
 
 // Which of the two is shown: the message or the record, so many octets of it from a place on.
@@ -131,8 +93,8 @@ pub fn locate(m: &[u8], subscription: &[u8]) -> Extent
     ensures within { Within (length m.now) (length subscription.now) result }
 {
     match calling(m) {
-        Found::Nothing => Extent::Record(0, subscription.len()),
-        Found::Address(at, n) => Extent::Message(at, n),
+        None => Extent::Record(0, subscription.len()),
+        Some((at, n)) => Extent::Message(at, n),
     }
 }
 

@@ -3,19 +3,17 @@
 --   first_unknown                where the first unknown one of the elements from a place on stands
 --   unknown_in, from_first        the identifiers of the unknown ones, in message order; the same, by where the first stands
 --   told                        the first 8 of them
---   gathered, skipped_of         identifiers in an array with their number; as a STATUS tells them
---   eight, skipped_octets        the octets of what a STATUS tells
+--   skipped_of                   identifiers in an array with their number, as a STATUS tells them
+--   skipped_octets               the octets of what a STATUS tells
 -- Assumes nothing.
-use Rattle.std.specs.Prelude.{ℕ, Bool, cond, List, [], ◌∷◌, length, get_or, take, replicate}
+use Rattle.std.specs.Prelude.{ℕ, Bool, cond, List, [], ◌∷◌, length, take, replicate, Option, Some, None}
 use Rattle.octets.specs.Octets.{front}
 use Rattle.traffic.specs.Traffic.{member}
 use Rattle.items.specs.declared.Item.{Item}
 use Rattle.items.specs.declared.Item.TheVariants.{End, Overrun, Whole}
 use Rattle.items.specs.Items.{items}
 use Rattle.unknown.specs.declared.Skipped.{Skipped}
-use Rattle.unknown.specs.declared.Gathered.{Gathered}
 use Rattle.unknown.specs.declared.Unknown.{Unknown}
-use Rattle.unknown.specs.declared.Unknown.TheVariants as unknown
 
 -- document 01 has rules for 08 14 59 5A 5C 5E 70 79; document 02, R-5: "Identifiers 54, 55, 58, 5D, 5F, 60 to 63, 6C, 6D, 71 and 78
 -- count as known here and stay skipped."
@@ -29,11 +27,11 @@ known id = member id known_identifiers
 
 -- "The reader of one element must now also answer where an unknown one stands.": its identifier, its place, and the place behind it; an
 -- element that overruns "is present .., and ends" the walk
-abbrev pub first_unknown : List ℕ → ℕ → List Item → Unknown
-first_unknown m at [] = unknown.None
-first_unknown m at (End ∷ is) = unknown.None
-first_unknown m at (Overrun id ∷ is) = cond (known id) unknown.None (unknown.At id at (length m))
-first_unknown m at (Whole id action start end ∷ is) = cond (known id) (first_unknown m end is) (unknown.At id at end)
+abbrev pub first_unknown : List ℕ → ℕ → List Item → Option Unknown
+first_unknown m at [] = None
+first_unknown m at (End ∷ is) = None
+first_unknown m at (Overrun id ∷ is) = cond (known id) None (Some (record { id = id; at = at; next = length m }))
+first_unknown m at (Whole id action start end ∷ is) = cond (known id) (first_unknown m end is) (Some (record { id = id; at = at; next = end }))
 
 -- "their identifiers, .. in message order, repeats included"
 abbrev pub unknown_in : List Item → List ℕ
@@ -42,34 +40,17 @@ unknown_in (End ∷ is) = unknown_in is
 unknown_in (Overrun id ∷ is) = cond (known id) (unknown_in is) (id ∷ unknown_in is)
 unknown_in (Whole id action start end ∷ is) = cond (known id) (unknown_in is) (id ∷ unknown_in is)
 
-abbrev pub from_first : List ℕ → Unknown → List ℕ
-from_first m unknown.None = []
-from_first m (unknown.At id place next) = id ∷ unknown_in (items m next)
+abbrev pub from_first : List ℕ → Option Unknown → List ℕ
+from_first m None = []
+from_first m (Some u) = u.id ∷ unknown_in (items m u.next)
 
 -- "first 8 in message order"
 abbrev pub told : List ℕ → ℕ → List ℕ
 told m from = take 8 (unknown_in (items m from))
 
--- at most eight identifiers in an array, 0 behind them
-abbrev pub gathered : List ℕ → Gathered
-gathered ids = record { identifiers = front ids (replicate 8 0); count = length ids }
-
+-- document 02, R-5: "their identifiers, first 8 in message order, repeats included": at the front of an array, with 0 behind them
 abbrev pub skipped_of : List ℕ → Skipped
-skipped_of ids = record {
-  count = length ids;
-  first = get_or ids 0 0;
-  second = get_or ids 1 0;
-  third = get_or ids 2 0;
-  fourth = get_or ids 3 0;
-  fifth = get_or ids 4 0;
-  sixth = get_or ids 5 0;
-  seventh = get_or ids 6 0;
-  eighth = get_or ids 7 0;
-}
-
--- document 02, R-5: "their identifiers, first 8 in message order, repeats included"
-abbrev pub eight : Skipped → List ℕ
-eight s = s.first ∷ s.second ∷ s.third ∷ s.fourth ∷ s.fifth ∷ s.sixth ∷ s.seventh ∷ s.eighth ∷ []
+skipped_of ids = record { identifiers = front ids (replicate 8 0); count = length ids }
 
 abbrev pub skipped_octets : Skipped → List ℕ
-skipped_octets s = take s.count (eight s)
+skipped_octets s = take s.count s.identifiers

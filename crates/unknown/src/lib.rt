@@ -8,7 +8,7 @@
 
 ghost use Rattle.std.specs.Prelude.{◌≡◌};
 ghost use Rattle.items.specs.Items.{items};
-ghost use Rattle.unknown.specs.Unknown.{known, first_unknown, unknown_in, from_first, told, gathered, skipped_of};
+ghost use Rattle.unknown.specs.Unknown.{known, first_unknown, unknown_in, from_first, told, skipped_of};
 
 use items::Item;
 
@@ -21,33 +21,21 @@ const KNOWN: [u8; 21] = [
 // How many identifiers are told.
 const MOST_TOLD: usize = 8;
 
-// An unknown element: there is none, or its identifier, the place where it stands, and the place behind it (the end of
-// the octets where it overruns them).
+// An unknown element: its identifier, the place where it stands, and the place behind it (the end of the octets where it
+// overruns them).
 #[derive(Clone, Copy)]
-pub enum Unknown {
-    None,
-    At(u8, usize, usize),
+pub struct Unknown {
+    pub id: u8,
+    pub at: usize,
+    pub next: usize,
 }
 
-// The identifiers of elements that were skipped: the first `count` of these eight.
+// The identifiers of elements that were skipped, at the front of an array.
+// Stays an array with a count: no heap (project rule).
 #[derive(Clone, Copy)]
 pub struct Skipped {
-    pub count: u8,
-    pub first: u8,
-    pub second: u8,
-    pub third: u8,
-    pub fourth: u8,
-    pub fifth: u8,
-    pub sixth: u8,
-    pub seventh: u8,
-    pub eighth: u8,
-}
-
-// Identifiers at the front of an array, and how many they are.
-#[derive(Clone, Copy)]
-struct Gathered {
-    identifiers: [u8; 8],
-    count: usize,
+    pub identifiers: [u8; 8],
+    pub count: usize,
 }
 
 // Does an identifier count as known?
@@ -58,73 +46,41 @@ pub fn is_known(id: u8) -> bool
 }
 
 // Where the first unknown element from a place on stands.
-pub fn first_unknown(m: &[u8], from: usize) -> Unknown
+#[tactic(auto, using(items::proofs::Items::met, items::proofs::Items::moved, crate::proofs::First::none_behind))]
+pub fn first_unknown(m: &[u8], from: usize) -> Option<Unknown>
     ensures value { result ≡ first_unknown m.now from (items m.now from) }
     ensures first { unknown_in (items m.now from) ≡ from_first m.now result }
 {
     let mut at = from;
     loop {
         match items::item_at(m, at) {
-            Item::End => return Unknown::None,
-            Item::Overrun(id) => {
-                if is_known(id) {
-                    return Unknown::None;
-                }
-                return Unknown::At(id, at, m.len());
-            }
-            Item::Whole(id, _, _, end) => {
-                if !is_known(id) {
-                    return Unknown::At(id, at, end);
-                }
-                at = end;
-            }
+            Item::Whole(id, _, _, end) if is_known(id) => at = end,
+            Item::Whole(id, _, _, next) => return Some(Unknown { id, at, next }),
+            Item::Overrun(id) if !is_known(id) => return Some(Unknown {
+                id,
+                at,
+                next: m.len(),
+            }),
+            _ => return None,
         }
     }
 }
 
-// The identifiers of the first 8 unknown elements, in message order.
-fn gather(m: &[u8], from: usize) -> Gathered
-    ensures { result ≡ gathered (told m.now from) }
-{
-    let mut identifiers: [u8; 8] = [0; 8];
-    let mut count: usize = 0;
-    let mut at = from;
-    while count < MOST_TOLD {
-        match first_unknown(m, at) {
-            Unknown::None => {
-                return Gathered {
-                    identifiers: identifiers,
-                    count: count,
-                };
-            }
-            Unknown::At(id, _, next) => {
-                identifiers[count] = id;
-                count += 1;
-                at = next;
-            }
-        }
-    }
-    Gathered {
-        identifiers: identifiers,
-        count: count,
-    }
-}
-
-// The identifiers of the first 8 unknown elements, as a STATUS tells them.
+// The identifiers of the first 8 unknown elements in message order, as a STATUS tells them.
 pub fn skipped_in(m: &[u8], from: usize) -> Skipped
     ensures { result ≡ skipped_of (told m.now from) }
 {
-    let found = gather(m, from);
-    let ids = found.identifiers;
+    let mut identifiers = [0; 8];
+    let mut at = from;
+    for count in 0..MOST_TOLD {
+        let Some(found) = first_unknown(m, at) else {
+            return Skipped { identifiers, count };
+        };
+        identifiers[count] = found.id;
+        at = found.next;
+    }
     Skipped {
-        count: found.count as u8,
-        first: ids[0],
-        second: ids[1],
-        third: ids[2],
-        fourth: ids[3],
-        fifth: ids[4],
-        sixth: ids[5],
-        seventh: ids[6],
-        eighth: ids[7],
+        identifiers,
+        count: MOST_TOLD,
     }
 }

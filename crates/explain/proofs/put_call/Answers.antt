@@ -1,7 +1,6 @@
 -- `explain::put_call` meets its contract: its parts one behind the other. Assumes nothing.
-use native.Mathlib.Omega.{arith}
 use Rattle.octets.proofs.Stores.{chain}
 use Rattle.explain.proofs.put_call.Goals as goal
 
-pub returns : goal.returns
-returns c = record { wrote = rw (← c.number.ensures) (chain (chain (chain c.put_labelled-stated.ensures.wrote c.put_labelled-half.ensures.wrote) c.put_labelled-paired.ensures.wrote) c.put_timer.ensures.wrote); short = (omega arith, omega arith) }
+pub returns-clause-wrote : goal.returns-clause-wrote
+returns-clause-wrote c = rw (← c.number.ensures) (chain (chain (chain c.put_labelled-stated.ensures.wrote c.put_labelled-half.ensures.wrote) c.put_labelled-paired.ensures.wrote) c.put_timer.ensures.wrote)

@@ -1,7 +1,6 @@
--- `explain::put_labelled` meets its contract: the number behind the word. Assumes nothing.
-use native.Mathlib.Omega.{arith}
+-- `explain::put_labelled` meets its contract: its parts one behind the other. Assumes nothing.
 use Rattle.octets.proofs.Stores.{chain}
 use Rattle.explain.proofs.put_labelled.Goals as goal
 
-pub returns : goal.returns
-returns c = record { wrote = chain c.put-next.ensures.stored c.put_decimal.ensures.wrote; short = (omega arith, omega arith) }
+pub returns-clause-wrote : goal.returns-clause-wrote
+returns-clause-wrote c = chain c.put-next.ensures.stored c.put_decimal.ensures.wrote

@@ -21,11 +21,11 @@ returns-else-table-le-LARGEST_READING c =
     let some : c.pool_of.result ≡ Some c.in_ok-pool.pool = grind arith in
     let lists : ◌≡◌ {A = Provision} (record { accepted = true; pool = c.in_ok-pool.pool }) (provision (range_numbers c.args.form.now) (pair_numbers c.args.form.now)) = rw some at c.pool_of.ensures in
     elim c.else-table-le-LARGEST_READING.branch [
-      goal.else-table-le-LARGEST_READING-via-then-table-le-LARGEST_READING+then-is_kept+else-is_own w ↦
-        not_own slot_count c.args.form.now _ lists _ c.table_of-table.ensures refl (le-leb _ _ w.if-table-le-LARGEST_READING.true) (sym w.is_kept.ensures ∙ w.if-is_kept.true)
-        (sym w.is_own.ensures ∙ w.if-is_own.false)
-    | goal.else-table-le-LARGEST_READING-via-then-table-le-LARGEST_READING+else-is_kept w ↦
-        not_kept slot_count c.args.form.now _ lists _ c.table_of-table.ensures refl (le-leb _ _ w.if-table-le-LARGEST_READING.true) (sym w.is_kept.ensures ∙ w.if-is_kept.false)
-    | goal.else-table-le-LARGEST_READING-via-else-table-le-LARGEST_READING w ↦
-        over_limit slot_count c.args.form.now _ lists _ c.table_of-table.ensures refl (lt-leb _ _ w.if-table-le-LARGEST_READING.false)
+      | goal.else-table-le-LARGEST_READING-via-then-table-le-LARGEST_READING+then-is_kept+else-is_own w ↦
+          not_own slot_count c.args.form.now _ lists _ c.table_of-table.ensures refl (le-leb _ _ w.if-table-le-LARGEST_READING.true) (sym w.is_kept.ensures ∙ w.if-is_kept.true)
+          (sym w.is_own.ensures ∙ w.if-is_own.false)
+      | goal.else-table-le-LARGEST_READING-via-then-table-le-LARGEST_READING+else-is_kept w ↦
+          not_kept slot_count c.args.form.now _ lists _ c.table_of-table.ensures refl (le-leb _ _ w.if-table-le-LARGEST_READING.true) (sym w.is_kept.ensures ∙ w.if-is_kept.false)
+      | goal.else-table-le-LARGEST_READING-via-else-table-le-LARGEST_READING w ↦
+          over_limit slot_count c.args.form.now _ lists _ c.table_of-table.ensures refl (lt-leb _ _ w.if-table-le-LARGEST_READING.false)
     ]
