@@ -24,7 +24,7 @@ use calls::{Call, Due, Hold, Slot, State};
 use channels::{Channel, Named, Pool};
 use effects::{Change, Effect, Ending, assign, on_call, quiet, replying};
 use first::Found;
-use header::Header;
+use header::{Header, MessageType};
 use pairs::Pairs;
 use replies::{Cause, Outgoing, Reply};
 use service::{Global, GlobalState, OutOfService};
@@ -53,23 +53,14 @@ pub struct Fired {
 fn is_restart(head: Header) -> bool
     ensures { result ≡ (eqb head.kind 0x46 && not head.flag) }
 {
-    if head.kind == 0x46 {
-        return !head.flag;
-    }
-    false
+    head.kind == MessageType::Restart as u8 && !head.flag
 }
 
 // RESTART ACKNOWLEDGE with flag 1, while our RESTART is under way.
 fn is_acknowledge(head: Header, state: GlobalState) -> bool
     ensures { result ≡ ((eqb head.kind 0x4E && head.flag) && is_waiting state) }
 {
-    if head.kind == 0x4E {
-        if head.flag {
-            return state.is_waiting();
-        }
-        return false;
-    }
-    false
+    head.kind == MessageType::RestartAcknowledge as u8 && head.flag && state.is_waiting()
 }
 
 // RELEASE COMPLETE for a SETUP.
@@ -346,16 +337,13 @@ impl Table {
     fn on_no_call(self, m: &[u8], head: Header) -> Effect
         ensures { result ≡ on_no_call self m.now head }
     {
-        if head.kind == 0x05 {
-            if head.flag {
-                return quiet();
-            }
-            if head.whole {
-                return self.set_up(m, head.reference);
-            }
+        if head.kind != MessageType::Setup as u8 {
+            return replying(!head.flag, head.reference, judging::no_call_reply(m, head));
+        }
+        if head.flag || !head.whole {
             return quiet();
         }
-        replying(!head.flag, head.reference, judging::no_call_reply(m, head))
+        self.set_up(m, head.reference)
     }
 
     // A message on the global reference.
