@@ -1,11 +1,16 @@
 // The header of a message.
 //   Header           what it says
 //   read             the header of any octets, none where the header checks ignore the message
+//   MessageType      the message types that have a rule
 // Nothing has a `requires`. Assumes nothing.
 #![tactic(auto)]
 
 ghost use Rattle.std.specs.Prelude.{◌≡◌, ◌+◌, ◌*◌, ◌%◌};
 ghost use Rattle.header.specs.Header.{head_of};
+
+mod message_type;
+
+pub use message_type::{MessageType, UnknownType};
 
 // `whole`: the length field equals the number of octets after octet 9.
 #[derive(Clone, Copy)]

@@ -16,7 +16,7 @@ ghost use Rattle.verdicts.specs.Verdict.{answered};
 
 use calls::{State, T310};
 use elements::Read;
-use header::Header;
+use header::{Header, MessageType};
 use replies::{Diagnostic, Reply};
 use verdicts::{Notice, Verdict, answered, because, ended, moved, plain_cause};
 
@@ -44,28 +44,19 @@ pub enum Kind {
 pub fn class_of(kind: u8, state: State) -> Class
     ensures { result ≡ classify kind state }
 {
-    let number = state.number();
-    match kind {
-        0x02 => match number {
-            6 => Class::Expected(Kind::CallProceeding),
-            _ => Class::Unexpected,
-        },
-        0x05 => Class::Ignored,
-        0x07 => match number {
-            6 | 9 => Class::Expected(Kind::Connect),
-            _ => Class::Unexpected,
-        },
-        0x0F => match number {
-            10 => Class::Expected(Kind::ConnectAcknowledge),
-            _ => Class::Unexpected,
-        },
-        0x46 => Class::Unexpected,
-        0x4D => Class::Expected(Kind::Release),
-        0x4E => Class::Unexpected,
-        0x5A => Class::Expected(Kind::ReleaseComplete),
-        0x75 => Class::Expected(Kind::StatusEnquiry),
-        0x7D => Class::Expected(Kind::Status),
-        _ => Class::Unknown,
+    match (MessageType::try_from(kind), state) {
+        (Err(_), _) => Class::Unknown,
+        (Ok(MessageType::Setup), _) => Class::Ignored,
+        (Ok(MessageType::CallProceeding), State::N6(_)) => Class::Expected(Kind::CallProceeding),
+        (Ok(MessageType::Connect), State::N6(_) | State::N9(_)) => Class::Expected(Kind::Connect),
+        (Ok(MessageType::ConnectAcknowledge), State::N10) => {
+            Class::Expected(Kind::ConnectAcknowledge)
+        }
+        (Ok(MessageType::Release), _) => Class::Expected(Kind::Release),
+        (Ok(MessageType::ReleaseComplete), _) => Class::Expected(Kind::ReleaseComplete),
+        (Ok(MessageType::StatusEnquiry), _) => Class::Expected(Kind::StatusEnquiry),
+        (Ok(MessageType::Status), _) => Class::Expected(Kind::Status),
+        (Ok(_), _) => Class::Unexpected,
     }
 }
 
@@ -154,16 +145,11 @@ fn status_reply(m: &[u8]) -> Reply
 pub fn no_call_reply(m: &[u8], head: Header) -> Reply
     ensures { result ≡ no_call_reply m.now head }
 {
-    let kind = head.kind;
-    match kind {
-        0x5A => Reply::None,
-        0x75 => Reply::Status(0, plain_cause(30)),
-        0x7D => {
-            if head.whole {
-                return status_reply(m);
-            }
-            Reply::None
-        }
+    match MessageType::try_from(head.kind) {
+        Ok(MessageType::ReleaseComplete) => Reply::None,
+        Ok(MessageType::StatusEnquiry) => Reply::Status(0, plain_cause(30)),
+        Ok(MessageType::Status) if head.whole => status_reply(m),
+        Ok(MessageType::Status) => Reply::None,
         _ => Reply::ReleaseCompleteWith(plain_cause(81)),
     }
 }
@@ -172,14 +158,10 @@ pub fn no_call_reply(m: &[u8], head: Header) -> Reply
 pub fn global_reply(state: u8, head: Header) -> Reply
     ensures { result ≡ global_reply state head }
 {
-    let kind = head.kind;
-    match kind {
-        0x7D => Reply::None,
-        0x4E => {
-            if head.flag {
-                return Reply::Status(state, because(101, Diagnostic::Octet(0x4E)));
-            }
-            Reply::Status(state, plain_cause(81))
+    match MessageType::try_from(head.kind) {
+        Ok(MessageType::Status) => Reply::None,
+        Ok(MessageType::RestartAcknowledge) if head.flag => {
+            Reply::Status(state, because(101, Diagnostic::Octet(head.kind)))
         }
         _ => Reply::Status(state, plain_cause(81)),
     }

@@ -2,6 +2,7 @@
 --   diagnostic_octets           what follows a cause number
 --   in_field                    the octets of a diagnostic field
 --   cause, short, call_state, connection, restart      the elements that we write
+--   headed                      a message by its header and its elements
 --   kind_of, elements_of, meant  a reply's type, its elements, and the message that it is
 --   reply_octets                its octets: none where there is no reply
 --   setup_octets                SETUP: the Connection identifier and then the body as it came
@@ -10,8 +11,10 @@
 -- Assumes nothing.
 use Rattle.std.specs.Prelude.{ℕ, ◌+◌, ◌%◌, Bool, true, false, cond, List, [], ◌∷◌, ◌++◌, length, take}
 use Rattle.octets.specs.Octets.{high, low}
+use Rattle.header.specs.MessageType.{number_of}
 use Rattle.replies.specs.Message.{Element, Message, element_octets, header, message, octets}
 use Rattle.replies.specs.declared.Field.{Field}
+use Rattle.replies.specs.declared.Heading.{Heading}
 use Rattle.replies.specs.declared.Mandatory.{Mandatory}
 use Rattle.replies.specs.declared.Diagnostic.{Diagnostic}
 use Rattle.replies.specs.declared.Diagnostic.TheVariants as diagnostic
@@ -105,6 +108,10 @@ is_silent reply.RestartAcknowledgeAll = false
 is_silent (reply.RestartAcknowledge p v) = false
 is_silent reply.RestartAll = false
 is_silent (reply.Restart p v) = false
+
+-- the message with this header and these elements
+abbrev pub headed : Heading → List Element → Message
+headed h es = message h.flag h.reference (number_of h.kind) es
 
 -- the message that a reply with this flag and call reference is
 abbrev pub meant : Bool → ℕ → Reply → Message

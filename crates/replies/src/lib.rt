@@ -9,8 +9,11 @@
 
 ghost use Rattle.std.specs.Prelude.{◌≡◌, false, cond, ◌+◌, ◌≤◌, ◌<◌, ◌∷◌, [], ◌++◌, length};
 ghost use Rattle.octets.specs.Octets.{high, low, Wrote, Fills, front};
-ghost use Rattle.replies.specs.Message.{header, element_octets, message, octets};
-ghost use Rattle.replies.specs.Reply.{in_field, optional, identifiers, diagnostic_octets, cause, short, call_state, connection, restart, reply_octets, setup_octets, reply_room, body_room, sent_octets};
+ghost use Rattle.header.specs.MessageType.{number_of};
+ghost use Rattle.replies.specs.Message.{header, element_octets, octets};
+ghost use Rattle.replies.specs.Reply.{in_field, optional, identifiers, diagnostic_octets, cause, short, call_state, connection, restart, headed, reply_octets, setup_octets, reply_room, body_room, sent_octets};
+
+use header::MessageType;
 
 pub const REPLY_ROOM: usize = 1024;
 
@@ -144,20 +147,6 @@ fn diagnostic_field(diagnostic: Diagnostic) -> Field
     }
 }
 
-fn put_header(room: &mut [u8], flag: bool, reference: u32, kind: u8, size: usize) -> usize
-    requires { 9 ≤ length room.old }
-    ensures { Wrote room.old 0 (header flag reference kind size) room.new result }
-{
-    let [_, top, middle, bottom] = reference.to_be_bytes();
-    let [.., high, low] = size.to_be_bytes();
-    let first = flag_octet(flag) + top % 128;
-    octets::put(
-        room,
-        0,
-        &[0x09, 0x03, first, middle, bottom, kind, 0x80, high, low],
-    )
-}
-
 fn flag_octet(flag: bool) -> u8
     ensures value { result ≡ cond flag 0x80 0 }
     ensures upper_bound { result ≤ 128 }
@@ -193,74 +182,87 @@ fn put_connection(room: &mut [u8], at: usize, vpci: u16, vci: u16) -> usize
     octets::put(room, at, &[0x5A, 0x80, 0, 5, 0x88, p, q, v, w])
 }
 
-// A message with no element.
-fn write_bare(room: &mut [u8], flag: bool, reference: u32, kind: u8) -> usize
-    requires { 1024 ≤ length room.old }
-    ensures { Fills room.old (octets (message flag reference kind [])) room.new result }
-{
-    put_header(room, flag, reference, kind, 0)
-}
-
-// A message with a Connection identifier.
-fn write_connection(
-    room: &mut [u8],
+// The header of a message that we write, its length field apart.
+#[derive(Clone, Copy)]
+struct Heading {
     flag: bool,
     reference: u32,
-    kind: u8,
-    vpci: u16,
-    vci: u16,
-) -> usize
-    requires { 1024 ≤ length room.old }
-    ensures { Fills room.old (octets (message flag reference kind (connection vpci vci ∷ []))) room.new result }
-{
-    let at = put_header(room, flag, reference, kind, 9);
-    put_connection(room, at, vpci, vci)
+    kind: MessageType,
 }
 
-// A message with a Cause.
-fn write_cause(room: &mut [u8], flag: bool, reference: u32, kind: u8, why: Cause) -> usize
-    requires { 1024 ≤ length room.old }
-    ensures { Fills room.old (octets (message flag reference kind (cause why ∷ []))) room.new result }
-{
-    let size = 6 + diagnostic_field(why.diagnostic).size;
-    let at = put_header(room, flag, reference, kind, size);
-    put_cause(room, at, why)
-}
+impl Heading {
+    // The header, which says that so many octets follow it.
+    fn put(self, room: &mut [u8], size: usize) -> usize
+        requires { 9 ≤ length room.old }
+        ensures { Wrote room.old 0 (header self.flag self.reference (number_of self.kind) size) room.new result }
+    {
+        let [_, top, middle, bottom] = self.reference.to_be_bytes();
+        let [.., high, low] = size.to_be_bytes();
+        let first = flag_octet(self.flag) + top % 128;
+        let kind = self.kind as u8;
+        octets::put(
+            room,
+            0,
+            &[0x09, 0x03, first, middle, bottom, kind, 0x80, high, low],
+        )
+    }
 
-fn write_status(room: &mut [u8], flag: bool, reference: u32, state: u8, why: Cause) -> usize
-    requires { 1024 ≤ length room.old }
-    ensures { Fills room.old (octets (message flag reference 0x7D (call_state state ∷ cause why ∷ []))) room.new result }
-{
-    let size = 11 + diagnostic_field(why.diagnostic).size;
-    let first = put_header(room, flag, reference, 0x7D, size);
-    let second = put_short(room, first, 0x14, state);
-    put_cause(room, second, why)
-}
+    // A message with no element.
+    fn write_bare(self, room: &mut [u8]) -> usize
+        requires { 1024 ≤ length room.old }
+        ensures { Fills room.old (octets (headed self [])) room.new result }
+    {
+        self.put(room, 0)
+    }
 
-// A message with a Restart indicator of all pairs.
-fn write_restart_all(room: &mut [u8], flag: bool, reference: u32, kind: u8) -> usize
-    requires { 1024 ≤ length room.old }
-    ensures { Fills room.old (octets (message flag reference kind (restart 0x82 ∷ []))) room.new result }
-{
-    let at = put_header(room, flag, reference, kind, 5);
-    put_short(room, at, 0x79, 0x82)
-}
+    // A message with a Connection identifier.
+    fn write_connection(self, room: &mut [u8], vpci: u16, vci: u16) -> usize
+        requires { 1024 ≤ length room.old }
+        ensures { Fills room.old (octets (headed self (connection vpci vci ∷ []))) room.new result }
+    {
+        let at = self.put(room, 9);
+        put_connection(room, at, vpci, vci)
+    }
 
-// A message with a Restart indicator of one pair, and its Connection identifier.
-fn write_restart_pair(
-    room: &mut [u8],
-    flag: bool,
-    reference: u32,
-    kind: u8,
-    vpci: u16,
-    vci: u16,
-) -> usize
-    requires { 1024 ≤ length room.old }
-    ensures { Fills room.old (octets (message flag reference kind (restart 0x80 ∷ connection vpci vci ∷ []))) room.new result }
-{
-    let first = put_header(room, flag, reference, kind, 14);
-    let second = put_short(room, first, 0x79, 0x80);
-    put_connection(room, second, vpci, vci)
+    // A message with a Cause.
+    fn write_cause(self, room: &mut [u8], why: Cause) -> usize
+        requires { 1024 ≤ length room.old }
+        ensures { Fills room.old (octets (headed self (cause why ∷ []))) room.new result }
+    {
+        let size = 6 + diagnostic_field(why.diagnostic).size;
+        let at = self.put(room, size);
+        put_cause(room, at, why)
+    }
+
+    // A message with a Call state and a Cause.
+    fn write_status(self, room: &mut [u8], state: u8, why: Cause) -> usize
+        requires { 1024 ≤ length room.old }
+        ensures { Fills room.old (octets (headed self (call_state state ∷ cause why ∷ []))) room.new result }
+    {
+        let size = 11 + diagnostic_field(why.diagnostic).size;
+        let first = self.put(room, size);
+        let second = put_short(room, first, 0x14, state);
+        put_cause(room, second, why)
+    }
+
+    // A message with a Restart indicator of all pairs.
+    fn write_restart_all(self, room: &mut [u8]) -> usize
+        requires { 1024 ≤ length room.old }
+        ensures { Fills room.old (octets (headed self (restart 0x82 ∷ []))) room.new result }
+    {
+        let at = self.put(room, 5);
+        put_short(room, at, 0x79, 0x82)
+    }
+
+    // A message with a Restart indicator of one pair, and its Connection identifier.
+    fn write_restart_pair(self, room: &mut [u8], vpci: u16, vci: u16) -> usize
+        requires { 1024 ≤ length room.old }
+        ensures { Fills room.old (octets (headed self (restart 0x80 ∷ connection vpci vci ∷ []))) room.new result }
+    {
+        let first = self.put(room, 14);
+        let second = put_short(room, first, 0x79, 0x80);
+        put_connection(room, second, vpci, vci)
+    }
 }
 
 // Writes a reply with this flag and call reference, and answers its length.
@@ -269,23 +271,28 @@ fn write(room: &mut [u8], flag: bool, reference: u32, reply: Reply) -> usize
     ensures { (result ≡ length (reply_octets flag reference reply))
         × (room.new ≡ front (reply_octets flag reference reply) room.old) }
 {
+    let of = |kind| Heading {
+        flag,
+        reference,
+        kind,
+    };
     match reply {
         Reply::None => 0,
-        Reply::CallProceeding(vpci, vci) => write_connection(
-            room, flag, reference, 0x02, vpci, vci,
+        Reply::CallProceeding(vpci, vci) => of(MessageType::CallProceeding).write_connection(
+            room, vpci, vci,
         ),
-        Reply::Connect => write_bare(room, flag, reference, 0x07),
-        Reply::ConnectAcknowledge => write_bare(room, flag, reference, 0x0F),
-        Reply::Release(why) => write_cause(room, flag, reference, 0x4D, why),
-        Reply::ReleaseComplete => write_bare(room, flag, reference, 0x5A),
-        Reply::ReleaseCompleteWith(why) => write_cause(room, flag, reference, 0x5A, why),
-        Reply::Status(state, why) => write_status(room, flag, reference, state, why),
-        Reply::RestartAcknowledgeAll => write_restart_all(room, flag, reference, 0x4E),
-        Reply::RestartAcknowledge(vpci, vci) => write_restart_pair(
-            room, flag, reference, 0x4E, vpci, vci,
-        ),
-        Reply::RestartAll => write_restart_all(room, flag, reference, 0x46),
-        Reply::Restart(vpci, vci) => write_restart_pair(room, flag, reference, 0x46, vpci, vci),
+        Reply::Connect => of(MessageType::Connect).write_bare(room),
+        Reply::ConnectAcknowledge => of(MessageType::ConnectAcknowledge).write_bare(room),
+        Reply::Release(why) => of(MessageType::Release).write_cause(room, why),
+        Reply::ReleaseComplete => of(MessageType::ReleaseComplete).write_bare(room),
+        Reply::ReleaseCompleteWith(why) => of(MessageType::ReleaseComplete).write_cause(room, why),
+        Reply::Status(state, why) => of(MessageType::Status).write_status(room, state, why),
+        Reply::RestartAcknowledgeAll => of(MessageType::RestartAcknowledge).write_restart_all(room),
+        Reply::RestartAcknowledge(vpci, vci) => of(
+            MessageType::RestartAcknowledge,
+        ).write_restart_pair(room, vpci, vci),
+        Reply::RestartAll => of(MessageType::Restart).write_restart_all(room),
+        Reply::Restart(vpci, vci) => of(MessageType::Restart).write_restart_pair(room, vpci, vci),
     }
 }
 
@@ -295,7 +302,12 @@ fn write_setup(room: &mut [u8], reference: u32, vpci: u16, vci: u16, body: &[u8]
     ensures { (result ≡ length (setup_octets reference vpci vci body.now))
         × (room.new ≡ front (setup_octets reference vpci vci body.now) room.old) }
 {
-    let first = put_header(room, false, reference, 0x05, 9 + body.len());
+    let heading = Heading {
+        flag: false,
+        reference,
+        kind: MessageType::Setup,
+    };
+    let first = heading.put(room, 9 + body.len());
     let second = put_connection(room, first, vpci, vci);
     octets::put(room, second, body)
 }

@@ -24,7 +24,7 @@ ghost use Rattle.table.specs.Effects.{read_at, with_slot, with_doubt, restarted,
 use calls::{Call, Hold, Slot, State, is_due};
 use channels::{Named, Pair, Pool};
 use effects::{Change, Effect, Ending, assign, on_call, quiet, replying};
-use header::Header;
+use header::{Header, MessageType};
 use pairs::Pairs;
 use replies::{Cause, Outgoing, Reply};
 use service::{Global, GlobalState, OutOfService};
@@ -54,14 +54,14 @@ pub struct Fired {
 fn is_restart(head: Header) -> bool
     ensures { result ≡ (eqb head.kind 0x46 && not head.flag) }
 {
-    head.kind == 0x46 && !head.flag
+    head.kind == MessageType::Restart as u8 && !head.flag
 }
 
 // RESTART ACKNOWLEDGE with flag 1, while our RESTART is under way.
 fn is_acknowledge(head: Header, state: GlobalState) -> bool
     ensures { result ≡ ((eqb head.kind 0x4E && head.flag) && is_waiting state) }
 {
-    head.kind == 0x4E && head.flag && state.is_waiting()
+    head.kind == MessageType::RestartAcknowledge as u8 && head.flag && state.is_waiting()
 }
 
 // RELEASE COMPLETE for a SETUP.
@@ -291,7 +291,7 @@ impl Table {
     fn on_no_call(self, m: &[u8], head: Header) -> Effect
         ensures { result ≡ on_no_call self m.now head }
     {
-        if head.kind != 0x05 {
+        if head.kind != MessageType::Setup as u8 {
             return replying(!head.flag, head.reference, judging::no_call_reply(m, head));
         }
         if head.flag || !head.whole {

@@ -5,4 +5,4 @@ use Rattle.octets.proofs.Stores.{chain, chained}
 use Rattle.replies.proofs.write_setup.Goals as goal
 
 pub returns : goal.returns
-returns c = chained (chain c.put_header-first.ensures (chain c.put_connection-second.ensures c.put.ensures.stored)) (omega arith)
+returns c = chained (chain c.put-first.ensures (chain c.put_connection-second.ensures c.put.ensures.stored)) (omega arith)
