@@ -1,7 +1,7 @@
 -- A pass over a list, each of whose elements may be a pair: what its loop keeps.
 --   many_most, many_few, many_all         at most as many pass a test as there are; as many where it always passes
 --   Passed                      the first i elements are read
---   passed_none, passed_more, passed_end    none; one more; all
+--   passed_more, passed_end     one more; all
 --   place_read, slot_read       what one place, or one slot, has is read
 --   passed_room                 the count has room for one more
 -- Over lists of any length. Assumes nothing.
@@ -26,7 +26,7 @@ use Rattle.calls.specs.declared.Slot.{Slot}
 use Rattle.search.specs.Search.{how_many, has_pair, there}
 use Rattle.search.specs.Marks.{near, Read}
 use Rattle.search.specs.declared.Marks.{Marks}
-use Rattle.search.proofs.Marked.{read_none, read_then, read_same}
+use Rattle.search.proofs.Marked.{read_then, read_same}
 
 pub many_all : {A : Type 0} (xs : List A) → how_many (λ x. true) xs ≡ length xs
 many_all [] = refl
@@ -58,9 +58,6 @@ module _ {A : Type 0} (p : A → Bool) where
 module _ {A : Type 0} (has : A → Bool) (at : ℕ → ℕ → A → Bool) (rs : List Range) (xs : List A) (old : Marks) where
   abbrev pub Passed : ℕ → Marks → Type 0
   Passed i on = Read rs (λ p v. list_any (at p v) (take i xs)) (how_many has (take i xs)) old on
-
-  pub passed_none : Passed 0 old
-  passed_none = read_none rs old
 
   pub passed_room : (i : ℕ) (on : Marks) → old.reads ≤ near → i ≤ length xs → i < near → Passed i on → on.reads < 3 * near
   passed_room i on few within h c =

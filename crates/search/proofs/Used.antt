@@ -1,46 +1,24 @@
 -- How many ranges there are up to the last that has a VCI.
---   used_next, used_past        one range more, which has a VCI; which has none
 --   used_most, used_few         there are no more than ranges
 --   used-spanning               there are none exactly if no range has a VCI
 --   lowest_used                 the ranges behind them have no pair
 -- Assumes nothing.
 use Rattle.std.specs.Prelude.{None}
-use Prim.Native.Nat.{ℕ, ◌+◌, ◌-◌, ◌≤◌, ◌<◌}
-use mathlib.Core.Path.{◌≡◌, refl, sym, ◌∙◌}
-use mathlib.Core.Bool.{Bool, true, false}
-use mathlib.Core.List.{List, [], ◌∷◌, ◌++◌}
+use Prim.Native.Nat.{ℕ, ◌+◌, ◌-◌, ◌≤◌}
+use mathlib.Core.Path.{◌≡◌, refl, ◌∙◌}
+use mathlib.Core.Bool.{Bool}
+use mathlib.Core.List.{List, [], ◌∷◌}
 use native.Mathlib.Omega.{arith}
 use native.Mathlib.Numerals.{add-one}
 use lib.Dec.{eqb}
 use lib.ListN.{length, take}
-use lib.Seq.{take-suc, length-take-le}
-use borrow.Author.Tests.{eqb-true, eqb-false, ne_eqb, leb-false, le-leb, lt-leb}
+use lib.Seq.{length-take-le}
+use borrow.Author.Tests.{eqb-true, eqb-false, ne_eqb, leb-false}
 use Rattle.channels.specs.Channels.{lowest}
 use Rattle.channels.specs.declared.Range.{Range}
 use Rattle.channels.proofs.Cases.{by_test}
 use Rattle.search.specs.Search.{spans, spanning}
-use Rattle.search.specs.Marks.{used, range_at}
-
-used_last : (rs : List Range) (r : Range) → spans r ≡ true → used (rs ++ (r ∷ [])) ≡ length rs + 1
-used_last [] r e = rw e
-used_last (q ∷ rs) r e =
-    let rest = used_last rs r e in
-    let some = ne_eqb (length rs + 1) 0 (λ z. omega arith) in
-    by_test (spans q) (λ t. rw (t, rest) (omega arith)) (λ t. rw (t, rest, some) (omega arith))
-
-used_unused : (rs : List Range) (r : Range) → spans r ≡ false → used (rs ++ (r ∷ [])) ≡ used rs
-used_unused [] r e = rw e
-used_unused (q ∷ rs) r e = rw (used_unused rs r e)
-
-module _ (rs : List Range) (k : ℕ) (h : k < length rs) where
-  pub used_next : (range_at rs k).first ≤ (range_at rs k).last → k + 1 ≡ used (take (k + 1) rs)
-  used_next e =
-      let long = length-take-le k rs (omega arith) in
-      let last = used_last (take k rs) (range_at rs k) (le-leb _ _ e) in
-      rw (add-one k, take-suc rs k (record { vpci = 0; first = 0; last = 0 }) h, last, long) (sym (add-one k))
-
-  pub used_past : (range_at rs k).last < (range_at rs k).first → used (take k rs) ≡ used (take (k + 1) rs)
-  used_past e = rw (add-one k, take-suc rs k (record { vpci = 0; first = 0; last = 0 }) h, used_unused (take k rs) (range_at rs k) (lt-leb _ _ e))
+use Rattle.search.specs.Marks.{used}
 
 pub used_most : (rs : List Range) → used rs ≤ length rs
 used_most [] = omega arith
