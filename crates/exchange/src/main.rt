@@ -1,6 +1,6 @@
 // Reads an event script from standard input, and writes one answer line for each event.
-//   Desk                       the table, and how much of the output is filled
-//   ask, tell, respond, handle one event; a refusal is told by its number
+//   Desk                       the table, and the output
+//   ask, respond, handle       one event; a refusal is told by its number
 //   store, keep                a save
 //   open, begin, restore       a start, a reload
 //   take, serve, run           a line, whole lines, all of the script
@@ -8,13 +8,14 @@
 
 mod lines;
 mod number;
-mod texts;
+mod page;
 
-ghost use Rattle.std.specs.Prelude.{◌≡◌, ◌≤◌, ◌<◌, length, IfSome};
+ghost use Rattle.std.specs.Prelude.{◌≤◌, length, IfSome};
 ghost use Rattle.script.specs.Lines.{Asks, Within};
 
 use lines::Chunk;
 use outcome::Answer;
+use page::Page;
 use refusal::Refusal;
 use restarts::Target;
 use script::{Clock, Line, List, Request};
@@ -26,30 +27,11 @@ use table::Table;
 // The pattern that the reply room is filled with.
 const PATTERN: u8 = 0xA5;
 
-// The table, if a start or a reload was accepted; if answers are explained; how many octets of the output are filled.
-#[derive(Clone, Copy)]
+// The table, if a start or a reload was accepted, and the output.
+#[derive(Drop)]
 struct Desk {
     table: Option<Table>,
-    explains: bool,
-    used: usize,
-    ghost within: { used ≤ 65536 },
-}
-
-impl Desk {
-    fn new(explains: bool) -> Desk {
-        Desk {
-            table: None,
-            explains,
-            used: 0,
-        }
-    }
-
-    fn filled(mut self, used: usize) -> Desk
-        requires { used ≤ 65536 }
-    {
-        self.used = used;
-        self
-    }
+    page: Page,
 }
 
 fn lent(room: u64) -> usize
@@ -58,11 +40,18 @@ fn lent(room: u64) -> usize
     room.min(4096) as usize
 }
 
-// The first n octets of a room, if it has so many, and each octet behind them still has the pattern.
+// If each octet still has the pattern. All are looked at: with `all`, which stops early, a script takes a third longer.
+fn untouched(room: &[u8]) -> bool {
+    room.iter()
+        .fold(0, |other, octet| other | (*octet ^ PATTERN))
+        == 0
+}
+
+// The first n octets of a room, if it has so many, and what is behind them is untouched.
 fn reply_in(room: &[u8], n: usize) -> Option<&[u8]>
     ensures { IfSome result (λ r. length r.now ≤ length room.now) }
 {
-    if n <= room.len() && room[n..].iter().all(|octet| *octet == PATTERN) {
+    if n <= room.len() && untouched(&room[n..]) {
         Some(&room[..n])
     } else {
         None
@@ -135,112 +124,122 @@ fn ask(
     }
 }
 
-// Writes an answer, and explains it if that is asked for; what lies behind the reply must be untouched.
-fn tell(
-    rt: &impl Print,
-    desk: Desk,
-    before: Table,
-    refusal: u8,
-    answer: Answer,
-    request: Request,
-    octets: &[u8],
-    room: &[u8],
-    out: &mut [u8; 65536],
-) -> usize
-    requires { (length room.now ≤ 4096) × Asks request (length octets.now) }
-    ensures { result ≤ 65536 }
-{
-    let Some(reply) = reply_in(room, answer.length) else {
-        return texts::put_touched(rt, out, desk.used, desk.explains);
-    };
-    let at = texts::cleared(rt, out, desk.used);
-    let next = answers::put_answer(
-        out,
-        at,
-        refusal,
-        reply,
-        answer.notice,
-        answer.flags,
-        answer.more,
-    );
-    if !desk.explains {
-        return next;
-    }
-    explain::put_line(
-        out,
-        next,
-        request,
-        octets,
-        refusal,
-        reply,
-        before.slots,
-        answer.table.slots,
+impl Desk {
+    // One event on a table, with a room; what lies behind the reply must be untouched.
+    fn respond(
+        &mut self,
+        rt: &impl Print,
+        table: Table,
+        clock: Clock,
+        request: Request,
+        octets: &[u8],
+        room: &mut [u8],
     )
-}
+        requires { (length room.old ≤ 4096) × Asks request (length octets.now) }
+    {
+        let answer = ask(table, clock, request, octets, room);
+        let refusal = number_of(&answer);
+        let answer = answer.unwrap_or(nothing(table));
+        match reply_in(room, answer.length) {
+            Some(reply) => {
+                let before = table.slots;
+                self.page
+                    .put_answer(rt, request, octets, refusal, reply, before, answer);
+            }
+            None => self.page.put_touched(rt),
+        }
+        self.table = Some(answer.table);
+    }
 
-// One event on a table, with a room.
-fn respond(
-    rt: &impl Print,
-    mut desk: Desk,
-    table: Table,
-    clock: Clock,
-    request: Request,
-    octets: &[u8],
-    room: &mut [u8],
-    out: &mut [u8; 65536],
-) -> Desk
-    requires { (length room.old ≤ 4096) × Asks request (length octets.now) }
-{
-    let answer = ask(table, clock, request, octets, room);
-    let refusal = number_of(&answer);
-    let answer = answer.unwrap_or(nothing(table));
-    desk.used = tell(rt, desk, table, refusal, answer, request, octets, room, out);
-    desk.table = Some(answer.table);
-    desk
-}
+    // One event, in a room with the pattern in all of it.
+    fn handle(&mut self, rt: &impl Print, clock: Clock, request: Request, octets: &[u8])
+        requires { Asks request (length octets.now) }
+    {
+        let Some(table) = self.table else {
+            self.page.put_no_table(rt);
+            return;
+        };
+        let mut room = [PATTERN; 4096];
+        let n = lent(clock.room);
+        self.respond(rt, table, clock, request, octets, &mut room[..n]);
+    }
 
-// One event, in a room with the pattern in all of it.
-fn handle(
-    rt: &impl Print,
-    mut desk: Desk,
-    clock: Clock,
-    request: Request,
-    octets: &[u8],
-    out: &mut [u8; 65536],
-) -> Desk
-    requires { Asks request (length octets.now) }
-{
-    let Some(table) = desk.table else {
-        desk.used = texts::put_no_table(rt, out, desk.used, desk.explains);
-        return desk;
-    };
-    let mut room = [PATTERN; 4096];
-    let n = lent(clock.room);
-    respond(rt, desk, table, clock, request, octets, &mut room[..n], out)
-}
+    // A save with a room; what lies behind the form must be untouched.
+    fn store(&mut self, rt: &impl Print, table: Table, room: &mut [u8])
+        requires { length room.old ≤ 4096 }
+    {
+        let saved = saved::save(table, room);
+        match reply_in(room, saved.unwrap_or(0)) {
+            Some(form) => self.page.put_saved(rt, number_of(&saved), form),
+            None => self.page.put_touched(rt),
+        }
+    }
 
-// A save with a room; what lies behind the form must be untouched.
-fn store(rt: &impl Print, desk: Desk, table: Table, room: &mut [u8], out: &mut [u8; 65536]) -> usize
-    requires { (length room.old ≤ 4096) }
-    ensures { result ≤ 65536 }
-{
-    let saved = saved::save(table, room);
-    let Some(form) = reply_in(room, saved.unwrap_or(0)) else {
-        return texts::put_touched(rt, out, desk.used, desk.explains);
-    };
-    texts::put_saved(rt, out, desk.used, number_of(&saved), form, desk.explains)
-}
+    // A save, in a room with the pattern in all of it.
+    fn keep(&mut self, rt: &impl Print, size: u64) {
+        let Some(table) = self.table else {
+            self.page.put_no_table(rt);
+            return;
+        };
+        let mut room = [PATTERN; 4096];
+        let n = lent(size);
+        self.store(rt, table, &mut room[..n]);
+    }
 
-// A save, in a room with the pattern in all of it.
-fn keep(rt: &impl Print, desk: Desk, size: u64, out: &mut [u8; 65536]) -> usize
-    ensures { result ≤ 65536 }
-{
-    let Some(table) = desk.table else {
-        return texts::put_no_table(rt, out, desk.used, desk.explains);
-    };
-    let mut room = [PATTERN; 4096];
-    let n = lent(size);
-    store(rt, desk, table, &mut room[..n], out)
+    // What a start or a reload answers, with a note for each case; a refused one leaves no table.
+    fn open(
+        &mut self,
+        rt: &impl Print,
+        started: Result<Table, Refusal>,
+        accepted: &[u8],
+        refused: &[u8],
+    )
+        requires { (length accepted.now ≤ 64) × (length refused.now ≤ 64) }
+    {
+        self.page.put_opened(rt, started.is_ok(), accepted, refused);
+        self.table = started.ok();
+    }
+
+    // A line that begins with `start`.
+    fn begin(&mut self, rt: &impl Print, line: &[u8]) {
+        match script::read_lists(line) {
+            Some(lists) => self.open(
+                rt,
+                start(lists.ranges, lists.pairs),
+                b"# start accepted: every slot is empty\n",
+                b"# start refused: the lists break a rule\n",
+            ),
+            None => self.page.put_bad_line(rt, line),
+        }
+    }
+
+    // A saved form in place of a start.
+    fn restore(&mut self, rt: &impl Print, form: &[u8]) {
+        self.open(
+            rt,
+            reload::reload(form),
+            b"# table reloaded\n",
+            b"# reload refused: the octets are no saved form\n",
+        );
+    }
+
+    // One line; what asks nothing of the table is answered apart.
+    fn take(&mut self, rt: &impl Print, line: &[u8], octets: &mut [u8; 4096]) {
+        match read(line, octets) {
+            None => number::answer(rt, &mut self.page, line, octets),
+            Some(Line::Start) => self.begin(rt, line),
+            Some(Line::Event(clock, request)) => self.handle(rt, clock, request, octets),
+            Some(Line::Save(size)) => self.keep(rt, size),
+            Some(Line::Reload(n)) => self.restore(rt, &octets[..n]),
+        }
+    }
+
+    // Whole lines.
+    fn serve(&mut self, rt: &impl Print, lines: &[u8], octets: &mut [u8; 4096]) {
+        for line in lines.split(|octet| *octet == b'\n') {
+            self.take(rt, line, octets);
+        }
+    }
 }
 
 // A start from two lists.
@@ -248,60 +247,6 @@ fn start(ranges: List, pairs: List) -> Result<Table, Refusal>
     requires { (ranges.n ≤ 64) × (pairs.n ≤ 64) }
 {
     control::start(&ranges.numbers[..ranges.n], &pairs.numbers[..pairs.n])
-}
-
-// What a start or a reload answers, with a note for each case; a refused one leaves no table.
-fn open(
-    rt: &impl Print,
-    mut desk: Desk,
-    started: Result<Table, Refusal>,
-    accepted: &[u8],
-    refused: &[u8],
-    out: &mut [u8; 65536],
-) -> Desk
-    requires { (length accepted.now ≤ 64) × (length refused.now ≤ 64) }
-{
-    desk.used = texts::put_opened(
-        rt,
-        out,
-        desk.used,
-        number_of(&started),
-        desk.explains,
-        accepted,
-        refused,
-    );
-    desk.table = started.ok();
-    desk
-}
-
-// A line that begins with `start`.
-fn begin(rt: &impl Print, mut desk: Desk, line: &[u8], out: &mut [u8; 65536]) -> Desk {
-    let Some(lists) = script::read_lists(line) else {
-        desk.used = texts::put_bad_line(rt, out, desk.used, line, desk.explains);
-        return desk;
-    };
-    open(
-        rt,
-        desk,
-        start(lists.ranges, lists.pairs),
-        b"# start accepted: every slot is empty\n",
-        b"# start refused: the lists break a rule\n",
-        out,
-    )
-}
-
-// A saved form in place of a start.
-fn restore(rt: &impl Print, desk: Desk, octets: &[u8], n: usize, out: &mut [u8; 65536]) -> Desk
-    requires { (n ≤ length octets.now) }
-{
-    open(
-        rt,
-        desk,
-        reload::reload(&octets[0..n]),
-        b"# table reloaded\n",
-        b"# reload refused: the octets are no saved form\n",
-        out,
-    )
 }
 
 // What a line asks; one that is too long is bad.
@@ -314,40 +259,6 @@ fn read(line: &[u8], octets: &mut [u8; 4096]) -> Option<Line>
     script::read(line, octets)
 }
 
-// One line; what asks nothing of the table is answered apart.
-fn take(
-    rt: &impl Print,
-    desk: Desk,
-    line: &[u8],
-    octets: &mut [u8; 4096],
-    out: &mut [u8; 65536],
-) -> Desk {
-    match read(line, octets) {
-        None => desk.filled(number::answer(rt, out, desk.used, line, octets, desk.explains)),
-        Some(Line::Start) => begin(rt, desk, line, out),
-        Some(Line::Event(clock, request)) => handle(rt, desk, clock, request, octets, out),
-        Some(Line::Save(size)) => desk.filled(keep(rt, desk, size, out)),
-        Some(Line::Reload(n)) => restore(rt, desk, octets, n, out),
-    }
-}
-
-// The lines that the first `whole` octets of the input are.
-fn serve(
-    rt: &impl Print,
-    mut desk: Desk,
-    input: &[u8],
-    whole: usize,
-    octets: &mut [u8; 4096],
-    out: &mut [u8; 65536],
-) -> Desk
-    requires { (whole ≤ length input.now) }
-{
-    for line in input[..whole].split(|octet| *octet == b'\n') {
-        desk = take(rt, desk, line, octets, out);
-    }
-    desk
-}
-
 // All of the script, until the input ends or the answers cannot be written. A proved loop has to end, and nothing says that the
 // input does: so it counts to a number that no run reaches.
 fn run(
@@ -356,18 +267,19 @@ fn run(
     explains: bool,
     input: &mut [u8; 131072],
     octets: &mut [u8; 4096],
-    out: &mut [u8; 65536],
 ) {
-    let mut desk = Desk::new(explains);
+    let mut desk = Desk {
+        table: None,
+        page: Page::new(explains),
+    };
     let mut chunk = Chunk::none();
     for _ in 0..1099511627776u64 {
         chunk = lines::next(source, input, chunk);
-        desk = serve(rt, desk, input, chunk.whole, octets, out);
-        let is_written = texts::flush(rt, out, desk.used);
+        desk.serve(rt, &input[..chunk.whole], octets);
+        let is_written = desk.page.flush(rt);
         if !chunk.open || !is_written {
             return;
         }
-        desk = desk.filled(0);
     }
 }
 
@@ -383,14 +295,6 @@ fn asks_to_explain(rt: &impl Env) -> bool {
 fn main(rt: HostRuntime) {
     let mut input = [0u8; 131072];
     let mut octets = [0u8; 4096];
-    let mut out = [0u8; 65536];
     let explains = asks_to_explain(&rt);
-    run(
-        &rt,
-        &mut rt.stdin(),
-        explains,
-        &mut input,
-        &mut octets,
-        &mut out,
-    );
+    run(&rt, &mut rt.stdin(), explains, &mut input, &mut octets);
 }

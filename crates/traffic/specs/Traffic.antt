@@ -5,7 +5,7 @@
 --   traffic_fits                     readable contents
 --   has_subfield, traffic_allowed     the traffic rule
 -- Assumes nothing.
-use Rattle.std.specs.Prelude.{ℕ, ◌+◌, ◌-◌, Bool, true, false, ◌&&◌, ◌||◌, not, cond, List, [], ◌∷◌, eqb, leb, ltb, length, get_or}
+use Rattle.std.specs.Prelude.{ℕ, ◌≡◌, ◌+◌, ◌-◌, Bool, true, false, ◌&&◌, not, cond, List, [], ◌∷◌, eqb, leb, ltb, length, get_or}
 use Rattle.std.specs.List.{list_any}
 use Rattle.traffic.specs.declared.Subfield.{Subfield}
 use Rattle.traffic.specs.declared.Subfield.TheVariants.{End, Broken, Whole}
@@ -13,6 +13,10 @@ use Rattle.traffic.specs.Walk.{walk}
 
 abbrev pub member : ℕ → List ℕ → Bool
 member n = list_any (λ m. eqb n m)
+
+-- whether one of these octets passes the test whose answers are given
+abbrev pub IsAny : (ℕ → Bool → Type 0) → List ℕ → Bool → Type 0
+IsAny gives ns r = (test : ℕ → Bool) → ((n : ℕ) (b : Bool) → gives n b → b ≡ test n) → r ≡ list_any test ns
 
 -- "subfields 82 83 84 85 88 89 90 91 A0 A1 B0 B1 with 3 octets, BE with none, BF with 1"
 abbrev pub rates : List ℕ
@@ -74,8 +78,7 @@ abbrev pub with_best_effort : List ℕ
 with_best_effort = 0x84 ∷ 0x85 ∷ 0xBE ∷ 0xBF ∷ []
 
 abbrev pub any_other : List ℕ → Bool
-any_other [] = false
-any_other (id ∷ ids) = not (member id with_best_effort) || any_other ids
+any_other = list_any (λ id. not (member id with_best_effort))
 
 abbrev pub traffic_allowed : List ℕ → Bool
 traffic_allowed c = has_subfield c 0x84 && has_subfield c 0x85 && not (has_subfield c 0xBE && any_other (identifiers (subfields c 0)))

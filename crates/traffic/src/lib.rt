@@ -8,7 +8,7 @@
 #![tactic(auto, using(crate::proofs::Subfields::met, crate::proofs::Subfields::moved, crate::proofs::Subfields::repeated))]
 
 ghost use Rattle.std.specs.Prelude.{◌≡◌};
-ghost use Rattle.traffic.specs.Traffic.{span, subfield_at, subfields, identifiers, traffic_fits, has_subfield, with_best_effort, any_other, traffic_allowed, member};
+ghost use Rattle.traffic.specs.Traffic.{span, subfield_at, subfields, identifiers, traffic_fits, has_subfield, with_best_effort, any_other, traffic_allowed, member, IsAny};
 
 // What stands at a place: nothing more, a subfield that is not listed or cut, or one with its identifier and the place behind it.
 #[derive(Clone, Copy)]
@@ -59,22 +59,26 @@ pub fn subfield_at(c: &[u8], at: usize) -> Subfield
     Subfield::Whole(id, at + n)
 }
 
-// Is a subfield with this identifier met from a place on?
-fn has_from(c: &[u8], from: usize, id: u8) -> bool
-    ensures { result ≡ member id (identifiers (subfields c.now from)) }
+// Does the identifier of a subfield from a place on pass a test?
+fn any_from<F: Fn(u8) -> bool>(c: &[u8], from: usize, test: F) -> bool
+    requires { F.IsAlwaysCallable test }
+    ensures { IsAny (F.post test) (identifiers (subfields c.now from)) result }
 {
     let mut at = from;
     loop {
         match subfield_at(c, at) {
             Subfield::End | Subfield::Broken => return false,
-            Subfield::Whole(met, next) => {
-                if id == met {
-                    return true;
-                }
-                at = next;
-            }
+            Subfield::Whole(id, _) if test(id) => return true,
+            Subfield::Whole(_, next) => at = next,
         }
     }
+}
+
+// Is a subfield with this identifier met from a place on?
+fn has_from(c: &[u8], from: usize, id: u8) -> bool
+    ensures { result ≡ member id (identifiers (subfields c.now from)) }
+{
+    any_from(c, from, |met| id == met)
 }
 
 pub fn has_subfield(c: &[u8], id: u8) -> bool
@@ -113,18 +117,7 @@ fn with_best_effort(id: u8) -> bool
 fn any_other(c: &[u8]) -> bool
     ensures { result ≡ any_other (identifiers (subfields c.now 0)) }
 {
-    let mut at: usize = 0;
-    loop {
-        match subfield_at(c, at) {
-            Subfield::End | Subfield::Broken => return false,
-            Subfield::Whole(id, next) => {
-                if !with_best_effort(id) {
-                    return true;
-                }
-                at = next;
-            }
-        }
-    }
+    any_from(c, 0, |id| !with_best_effort(id))
 }
 
 // The traffic rule: 84 and 85 are there, and where BE is there nothing but 84 85 BF beside it.
