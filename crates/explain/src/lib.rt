@@ -3,38 +3,38 @@
 // Each function writes at a place of a lent buffer, asks for room there, and answers the place behind. Assumes nothing.
 #![tactic(auto)]
 
-ghost use Rattle.std.specs.Prelude.{◌≡◌, ◌++◌, ◌+◌, ◌≤◌, length};
+ghost use Rattle.std.specs.Prelude.{◌≡◌, ◌++◌, ◌+◌, ◌<◌, ◌≤◌, length};
 ghost use Rattle.octets.specs.Octets.{Wrote};
 ghost use Rattle.ascii.specs.Ascii.{decimal_text};
 ghost use Rattle.elements.specs.Values.{cause_in};
+ghost use Rattle.header.specs.MessageType.{number_of};
 ghost use Rattle.script.specs.Lines.{Asks};
 ghost use Rattle.explain.specs.Names.{name_in, kind_names, cause_names, refusal_names};
 ghost use Rattle.explain.specs.Line.{kind_text, cause_text, flag_text, header_text, found_text, message_text, clear_text, request_text, reply_text, timer_text, call_text, slot_text, same_state, is_same, is_about, change_text, note_text, slots_text, line_text};
 
 use calls::{Call, Hold, Slot, State};
 use elements::Read;
-use header::Header;
+use header::{Header, MessageType};
 use script::Request;
 use slots::Slots;
 
-// The name of a message type; nothing if it has none.
+// The name of a message type.
 #[tactic(auto, unfolding(crate::specs::Names::name_in, crate::specs::Names::kind_names))]
-fn kind_name(kind: u8) -> &'static [u8]
-    ensures name { result.now ≡ name_in kind_names kind }
-    ensures short { length result.now ≤ 50 }
+fn type_name(known: MessageType) -> &'static [u8]
+    ensures name { result.now ≡ name_in kind_names (number_of known) }
+    ensures short { (0 < length result.now) × (length result.now ≤ 50) }
 {
-    match kind {
-        0x02 => b"CALL PROCEEDING",
-        0x05 => b"SETUP",
-        0x07 => b"CONNECT",
-        0x0F => b"CONNECT ACKNOWLEDGE",
-        0x46 => b"RESTART",
-        0x4D => b"RELEASE",
-        0x4E => b"RESTART ACKNOWLEDGE",
-        0x5A => b"RELEASE COMPLETE",
-        0x75 => b"STATUS ENQUIRY",
-        0x7D => b"STATUS",
-        _ => b"",
+    match known {
+        MessageType::CallProceeding => b"CALL PROCEEDING",
+        MessageType::Setup => b"SETUP",
+        MessageType::Connect => b"CONNECT",
+        MessageType::ConnectAcknowledge => b"CONNECT ACKNOWLEDGE",
+        MessageType::Restart => b"RESTART",
+        MessageType::Release => b"RELEASE",
+        MessageType::RestartAcknowledge => b"RESTART ACKNOWLEDGE",
+        MessageType::ReleaseComplete => b"RELEASE COMPLETE",
+        MessageType::StatusEnquiry => b"STATUS ENQUIRY",
+        MessageType::Status => b"STATUS",
     }
 }
 
@@ -77,7 +77,7 @@ fn cause_name(cause: u8) -> &'static [u8]
     }
 }
 
-// Why an event was refused; nothing if it was not.
+// Why an event was refused; nothing if it was not. Stays a number: `put_line` takes any octet, and what it takes may not narrow.
 #[tactic(auto, unfolding(crate::specs::Names::name_in, crate::specs::Names::refusal_names))]
 fn refusal_name(refusal: u8) -> &'static [u8]
     ensures name { result.now ≡ name_in refusal_names refusal }
@@ -106,12 +106,13 @@ fn put_kind(out: &mut [u8], at: usize, kind: u8) -> usize
     ensures wrote { Wrote out.old at (kind_text kind) out.new result }
     ensures short { (at ≤ result) × (result ≤ at + 200) }
 {
-    let name = kind_name(kind);
-    if !name.is_empty() {
-        return octets::put(out, at, name);
+    match MessageType::try_from(kind) {
+        Ok(known) => octets::put(out, at, type_name(known)),
+        Err(_) => {
+            let next = octets::put(out, at, b"message type ");
+            ascii::put_octet(out, next, kind)
+        }
     }
-    let next = octets::put(out, at, b"message type ");
-    ascii::put_octet(out, next, kind)
 }
 
 // A cause number and its name.

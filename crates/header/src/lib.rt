@@ -32,14 +32,25 @@ fn reference(top: u8, middle: u8, bottom: u8) -> u32
 pub fn read(m: &[u8]) -> Option<Header>
     ensures { result ≡ head_of m.now }
 {
-    if m.len() < 9 || m[0] != 0x09 || m[1] != 0x03 {
+    let [
+        0x09,
+        0x03,
+        top,
+        middle,
+        bottom,
+        kind,
+        _,
+        high,
+        low,
+        rest @ ..,
+    ] = m
+    else {
         return None;
-    }
-    let size = octets::number(m[7], m[8]) as usize;
+    };
     Some(Header {
-        flag: 128 <= m[2],
-        reference: reference(m[2], m[3], m[4]),
-        kind: m[5],
-        whole: size == m.len() - 9,
+        flag: 128 <= *top,
+        reference: reference(*top, *middle, *bottom),
+        kind: *kind,
+        whole: octets::number(*high, *low) as usize == rest.len(),
     })
 }

@@ -21,15 +21,15 @@ pub enum Item {
 pub fn item_at(m: &[u8], at: usize) -> Item
     ensures { result ≡ item_at m.now at }
 {
-    if m.len() < 4 || m.len() - 4 < at {
+    let Some([id, action, high, low, rest @ ..]) = m.get(at..) else {
         return Item::End;
-    }
+    };
     let start = at + 4;
-    let n = octets::number(m[at + 2], m[at + 3]) as usize;
-    if m.len() - start < n {
-        return Item::Overrun(m[at]);
+    let n = octets::number(*high, *low) as usize;
+    if rest.len() < n {
+        return Item::Overrun(*id);
     }
-    Item::Whole(m[at], m[at + 1], start, start + n)
+    Item::Whole(*id, *action, start, start + n)
 }
 
 // The first element of an identifier, `End` where there is none.

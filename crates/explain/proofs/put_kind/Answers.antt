@@ -1,11 +1,13 @@
--- `explain::put_kind` meets its contract: the name, or the number where there is none. Assumes nothing.
-use Rattle.std.proofs.Common.{◌≡◌, [], ◌∙◌, sym, rules}
-use Rattle.std.proofs.lemmas.List.{nil_from_length}
+-- `explain::put_kind` meets its contract: a type that is unknown has no name. Assumes nothing.
+use Rattle.std.proofs.Common.{◌≡◌, ℕ, [], tests, rules}
 use Rattle.octets.proofs.Stores.{chain}
+use Rattle.header.specs.MessageType.{IsUnknown}
 use Rattle.explain.specs.Names.{name_in, kind_names}
 use Rattle.explain.proofs.put_kind.Goals as goal
 
-pub returns-clause-wrote : goal.returns-clause-wrote
-returns-clause-wrote c =
-    let e : name_in kind_names c.args.kind ≡ [] = sym c.kind_name-name.ensures.name ∙ nil_from_length c.kind_name-name.result.now (search rules) in
-    rw e (chain c.put-next.ensures.stored c.put_octet.ensures.wrote)
+no_name : (n : ℕ) → IsUnknown n → name_in kind_names n ≡ []
+unfolding name_in kind_names
+no_name n u = search (rules, tests)
+
+pub returns-in-Err-clause-wrote : goal.returns-in-Err-clause-wrote
+returns-in-Err-clause-wrote c = rw (no_name c.args.kind c.in-Err.ensures) (chain c.put-next.ensures.stored c.put_octet.ensures.wrote)
