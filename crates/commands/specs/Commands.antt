@@ -31,4 +31,4 @@ network_call r p v = record { network = true; pair = pair p v; reference = r }
 
 -- "offer: .. SETUP with 5A and then the body; N6, T303." "An accepted offer also answers notice 1."
 abbrev pub offered_on : ℕ → ℕ → ℕ → ℕ → ℕ → Effect
-offered_on reading i r p v = assigned i (network_call r p v) (N6 (reading + t303)) false (outgoing.Setup p v)
+offered_on reading i r p v = assigned i (network_call r p v) (N6 (reading + t303)) false (outgoing.Setup (pair p v))

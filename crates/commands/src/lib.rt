@@ -63,6 +63,6 @@ pub fn offer_call(reading: u64, i: usize, reference: u32, pair: Pair) -> Effect
         call,
         State::N6(reading + T303),
         false,
-        Outgoing::Setup(pair.vpci, pair.vci),
+        Outgoing::Setup(pair),
     )
 }

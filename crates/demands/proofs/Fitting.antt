@@ -181,7 +181,7 @@ declined_fits g c n d f view.no_class = global_state_fits g 96 (diagnostic.Octet
 declined_fits g c n d f view.bad_class = global_state_fits g 100 (diagnostic.Octet 0x79) (omega arith) (omega arith)
 declined_fits g c n d f view.no_pair_lem = global_state_fits g 96 (diagnostic.Octet 0x5A) (omega arith) (omega arith)
 declined_fits g c n d f view.bad_pair = global_state_fits g 100 (diagnostic.Octet 0x5A) (omega arith) (omega arith)
-declined_fits g c n d f (view.barred p v e) = let pair : FitsPair p v = rw e at f in global_state_fits g 82 (diagnostic.Pair p v) (omega arith) pair
+declined_fits g c n d f (view.barred p v e) = let fits : FitsPair p v = rw e at f in global_state_fits g 82 (diagnostic.Pair (pair p v)) (omega arith) fits
 
 acted_fits : (t : Table) (r : Read ℕ) (c : Read Pair) (which : Named) (a : Reply) → ReadFits c → view.Names t r c which a → Fitting a
 acted_fits t r c which a f (view.all k e y) = tt
@@ -235,7 +235,7 @@ body-offered t e o h (view.is_offer label reading room body) =
 
 abbrev pub FitsOutgoing : Outgoing → List ℕ → Type 0
 FitsOutgoing (outgoing.Reply a) body = Fitting a
-FitsOutgoing (outgoing.Setup p v) body = OfferBody body
+FitsOutgoing (outgoing.Setup c) body = OfferBody body
 
 pub record Writable (x : Effect) (body : List ℕ) : Type 0 where
   pub reference : x.reference < 8388608

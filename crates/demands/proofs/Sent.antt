@@ -45,9 +45,9 @@ outgoing_back flag r (outgoing.Reply a) body small fits =
     by_test (is_silent a)
     (λ e. rw e (record { same = refl; in_octets = no_octets }))
     (λ e. rw e (record { same = ap read_as (octets-read_back m f); in_octets = written_octets m f }))
-outgoing_back flag r (outgoing.Setup p v) body small b = record {
-  same = ap read_as (setup_reads_back r p v body b small);
-  in_octets = rw (setup_written r p v body b) (written_octets (setup_meant r p v body) (setup_well_formed r p v body b small));
+outgoing_back flag r (outgoing.Setup c) body small b = record {
+  same = ap read_as (setup_reads_back r c.vpci c.vci body b small);
+  in_octets = rw (setup_written r c.vpci c.vci body b) (written_octets (setup_meant r c.vpci c.vci body) (setup_well_formed r c.vpci c.vci body b small));
 }
 
 meant_unless : (t : Table) (e : Event) → meant_by t e ≡ cond (eqb (refusal_of t e) 0) (effect_meant (effect_of t e) (body_of e)) nothing
@@ -72,7 +72,7 @@ module _ (t : Table) (r : Reached t) (carried : CarriedOctets t r) (e : Event) (
 
 outgoing_short : (flag : Bool) (r : ℕ) (o : Outgoing) (body : List ℕ) → length body ≤ body_room → length (sent_octets flag r o body) ≤ reply_room
 outgoing_short flag r (outgoing.Reply a) body short = reply_size flag r a
-outgoing_short flag r (outgoing.Setup p v) body short = setup-size r p v body short
+outgoing_short flag r (outgoing.Setup c) body short = setup-size r c.vpci c.vci body short
 
 pub every_reply_is_short : (t : Table) (e : Event) → length (happens t e).reply ≤ reply_room
 every_reply_is_short t e =

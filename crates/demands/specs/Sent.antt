@@ -33,7 +33,7 @@ read_back (o ∷ os) = read_as (read_message (o ∷ os))
 -- the flag, the call reference, and the type and elements of the reply; "SETUP with 5A and then the body"
 abbrev pub outgoing_meant : Bool → ℕ → Outgoing → List ℕ → Sent
 outgoing_meant flag r (outgoing.Reply a) body = cond (is_silent a) nothing (sent (meant flag r a))
-outgoing_meant flag r (outgoing.Setup p v) body = sent (setup_meant r p v body)
+outgoing_meant flag r (outgoing.Setup c) body = sent (setup_meant r c.vpci c.vci body)
 
 abbrev pub effect_meant : Effect → List ℕ → Sent
 effect_meant x body = outgoing_meant x.flag x.reference x.outgoing body

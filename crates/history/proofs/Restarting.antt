@@ -86,7 +86,7 @@ goes_on t reading m (Some h) e =
 
 -- no STATUS answers a permitted pair
 goes_through : (t : Table) → Sound t → (p v : ℕ) → permitted t.pool p v ≡ true
-    → pair_restart (global_number t.global.state) t.pool (pair_read p v) ≡ restart_by (named.One (pair p v)) (reply.RestartAcknowledge p v)
+    → pair_restart (global_number t.global.state) t.pool (pair_read p v) ≡ restart_by (named.One (pair p v)) (reply.RestartAcknowledge (pair p v))
 goes_through t s p v ok =
     let known = permitted-known t.pool p v ok in
     let numbers = s.numbers p v ok in
@@ -185,6 +185,6 @@ restarting t s = record {
       rw (as_restart t label reading room m r (restart_by named.All reply.RestartAcknowledgeAll) (rw c))
       (λ p v. named_free t reading named.All p v refl, refl);
   ends_named = λ label reading room m r c p v d ok.
-      rw (as_restart t label reading room m r (restart_by (named.One (pair p v)) (reply.RestartAcknowledge p v)) (rw (c, d) (goes_through t s p v ok)))
+      rw (as_restart t label reading room m r (restart_by (named.One (pair p v)) (reply.RestartAcknowledge (pair p v))) (rw (c, d) (goes_through t s p v ok)))
       (named_free t reading (named.One (pair p v)) p v (rw (eq-eqb p p refl, eq-eqb v v refl)), refl);
 }

@@ -249,7 +249,7 @@ pub record Restarting (t : Table) : Type 0 where
   pub ends_named : (label reading room : ℕ) (m : List ℕ) → Restarts t label reading room m → restart_in m 9 ≡ elem.Readable 0x80
       → (p v : ℕ) → connection_in m 9 ≡ pair_read p v → permitted t.pool p v ≡ true
       → let o = happens t (message label reading room m) in
-      (way_in o.answer.table p v ≡ unmarked t p v) × (o.reply ≡ reply_octets true 0 (RestartAcknowledge p v))
+      (way_in o.answer.table p v ≡ unmarked t p v) × (o.reply ≡ reply_octets true 0 (RestartAcknowledge (pair p v)))
 
 -- the table, with no RESTART of ours under way
 abbrev pub without_restart : Table → Table

@@ -120,7 +120,7 @@ still flag r answer = turns (replied flag r answer) fate.Stay
 -- SETUP on no call: the causes 45, 47 and those of its elements, or a new call
 abbrev pub on_pair : ℕ → ℕ → Option Pair → Deed
 on_pair r i None = still true r (reply.ReleaseCompleteWith (plain_cause 45))
-on_pair r i (Some pv) = fills (record { refusal = 0; reply = reply_octets true r (reply.CallProceeding pv.vpci pv.vci); notice = 1; flags = flags_at i }) r pv.vpci pv.vci
+on_pair r i (Some pv) = fills (record { refusal = 0; reply = reply_octets true r (reply.CallProceeding pv); notice = 1; flags = flags_at i }) r pv.vpci pv.vci
 
 abbrev pub admit : ℕ → Option ℕ → Option Pair → Deed
 admit r None c = still true r (reply.ReleaseCompleteWith (plain_cause 47))

@@ -2,6 +2,7 @@
 --   setup-read          P1's SETUP reads as a message value with four elements, and that value is written as P1's octets
 --   replies-written     the replies of P1, P3 and P4
 -- Assumes nothing.
+use Rattle.channels.specs.Channels.{pair}
 use Prim.Native.Nat.{ℕ}
 use mathlib.Core.Path.{◌≡◌, refl}
 use mathlib.Core.Bool.{true, false}
@@ -30,7 +31,7 @@ pub setup-read : (read_message setup ≡ reads asked) × (octets asked ≡ setup
 setup-read = (refl, refl)
 
 pub replies-written :
-    (reply_octets true 1 (reply.CallProceeding 0 32)
+    (reply_octets true 1 (reply.CallProceeding (pair 0 32))
     ≡ 0x09 ∷ 0x03 ∷ 0x80 ∷ 0x00 ∷ 0x01 ∷ 0x02 ∷ 0x80 ∷ 0x00 ∷ 0x09
     ∷ 0x5A ∷ 0x80 ∷ 0x00 ∷ 0x05 ∷ 0x88 ∷ 0x00 ∷ 0x00 ∷ 0x00 ∷ 0x20 ∷ [])
     × (reply_octets true 5 (reply.Status 0 (record { number = 30; diagnostic = diagnostic.None }))

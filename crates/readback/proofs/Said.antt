@@ -8,6 +8,7 @@
 --   proceeding_pair, restart_pair, restart_class_lem, restart_all_class, own_restart_pair, own_restart_class, own_restart_all_class
 --   setup_pair                  the pair in SETUP
 -- Assumes nothing.
+use Rattle.channels.specs.Channels.{pair}
 use Prim.Native.Nat.{ℕ, ◌+◌, ◌%◌, ◌<◌}
 use mathlib.Core.Path.{◌≡◌, refl, sym, ap, ◌∙◌}
 use mathlib.Core.Bool.{Bool, true, false, cond, ◌&&◌, true≢false}
@@ -130,24 +131,24 @@ module _ (flag : Bool) (r : ℕ) (small : r < 8388608) where
   status_state s c h state =
       state_back (meant flag r (reply.Status s c)) (reply_well_formed flag r (reply.Status s c) small h) ∙ state_said s (cause c ∷ []) state
 
-  pub proceeding_pair : (p v : ℕ) → FitsPair p v → connection_in (reply_octets flag r (reply.CallProceeding p v)) 9 ≡ pair_read p v
-  proceeding_pair p v h = sent_pair (reply.CallProceeding p v) h ∙ pair_said p v [] h
+  pub proceeding_pair : (p v : ℕ) → FitsPair p v → connection_in (reply_octets flag r (reply.CallProceeding (pair p v))) 9 ≡ pair_read p v
+  proceeding_pair p v h = sent_pair (reply.CallProceeding (pair p v)) h ∙ pair_said p v [] h
 
-  pub restart_pair : (p v : ℕ) → FitsPair p v → connection_in (reply_octets flag r (reply.RestartAcknowledge p v)) 9 ≡ pair_read p v
-  restart_pair p v h = sent_pair (reply.RestartAcknowledge p v) h ∙ pair_said p v [] h
+  pub restart_pair : (p v : ℕ) → FitsPair p v → connection_in (reply_octets flag r (reply.RestartAcknowledge (pair p v))) 9 ≡ pair_read p v
+  restart_pair p v h = sent_pair (reply.RestartAcknowledge (pair p v)) h ∙ pair_said p v [] h
 
-  pub restart_class_lem : (p v : ℕ) → FitsPair p v → restart_in (reply_octets flag r (reply.RestartAcknowledge p v)) 9 ≡ Readable 0x80
-  restart_class_lem p v h = sent_restart (reply.RestartAcknowledge p v) h
+  pub restart_class_lem : (p v : ℕ) → FitsPair p v → restart_in (reply_octets flag r (reply.RestartAcknowledge (pair p v))) 9 ≡ Readable 0x80
+  restart_class_lem p v h = sent_restart (reply.RestartAcknowledge (pair p v)) h
 
   pub restart_all_class : restart_in (reply_octets flag r reply.RestartAcknowledgeAll) 9 ≡ Readable 0x82
   restart_all_class = sent_restart reply.RestartAcknowledgeAll tt
 
   -- document 02, R-4: our own RESTART
-  pub own_restart_pair : (p v : ℕ) → FitsPair p v → connection_in (reply_octets flag r (reply.Restart p v)) 9 ≡ pair_read p v
-  own_restart_pair p v h = sent_pair (reply.Restart p v) h ∙ pair_said p v [] h
+  pub own_restart_pair : (p v : ℕ) → FitsPair p v → connection_in (reply_octets flag r (reply.Restart (pair p v))) 9 ≡ pair_read p v
+  own_restart_pair p v h = sent_pair (reply.Restart (pair p v)) h ∙ pair_said p v [] h
 
-  pub own_restart_class : (p v : ℕ) → FitsPair p v → restart_in (reply_octets flag r (reply.Restart p v)) 9 ≡ Readable 0x80
-  own_restart_class p v h = sent_restart (reply.Restart p v) h
+  pub own_restart_class : (p v : ℕ) → FitsPair p v → restart_in (reply_octets flag r (reply.Restart (pair p v))) 9 ≡ Readable 0x80
+  own_restart_class p v h = sent_restart (reply.Restart (pair p v)) h
 
   pub own_restart_all_class : restart_in (reply_octets flag r reply.RestartAll) 9 ≡ Readable 0x82
   own_restart_all_class = sent_restart reply.RestartAll tt

@@ -41,7 +41,7 @@ diagnostic_short (diagnostic.Octet o) = omega arith
 diagnostic_short (diagnostic.Elements m) =
     rw (identifiers-size m)
     (omega (arith, optional-short m.traffic, optional-short m.qos, optional-short m.bearer, optional-short m.called))
-diagnostic_short (diagnostic.Pair p v) = omega arith
+diagnostic_short (diagnostic.Pair c) = omega arith
 diagnostic_short diagnostic.Timer = omega arith
 
 cause-short : (c : Cause) → length (body (cause c ∷ [])) ≤ 10
@@ -49,7 +49,7 @@ cause-short c = omega (arith, body-size (cause c) [], diagnostic_short c.diagnos
 
 elements-short : (a : Reply) → length (body (elements_of a)) ≤ 15
 elements-short reply.None = omega arith
-elements-short (reply.CallProceeding p v) = omega arith
+elements-short (reply.CallProceeding c) = omega arith
 elements-short reply.Connect = omega arith
 elements-short reply.ConnectAcknowledge = omega arith
 elements-short (reply.Release c) = omega (arith, cause-short c)
@@ -57,9 +57,9 @@ elements-short reply.ReleaseComplete = omega arith
 elements-short (reply.ReleaseCompleteWith c) = omega (arith, cause-short c)
 elements-short (reply.Status s c) = omega (arith, body-size (call_state s) (cause c ∷ []), cause-short c)
 elements-short reply.RestartAcknowledgeAll = omega arith
-elements-short (reply.RestartAcknowledge p v) = omega arith
+elements-short (reply.RestartAcknowledge c) = omega arith
 elements-short reply.RestartAll = omega arith
-elements-short (reply.Restart p v) = omega arith
+elements-short (reply.Restart c) = omega arith
 
 octets-size : (m : Message) → length (octets m) ≡ 9 + length (body m.elements)
 octets-size m = omega arith
@@ -97,7 +97,7 @@ diagnostic_octets_lem : (d : Diagnostic) → FitsDiagnostic d → Octets (diagno
 diagnostic_octets_lem diagnostic.None h = no_octets
 diagnostic_octets_lem (diagnostic.Octet o) h = one_octet h
 diagnostic_octets_lem (diagnostic.Elements m) h = identifiers-octets m
-diagnostic_octets_lem (diagnostic.Pair p v) h = pair_octets p v
+diagnostic_octets_lem (diagnostic.Pair c) h = pair_octets c.vpci c.vci
 diagnostic_octets_lem diagnostic.Timer h = octets_cons (omega arith) (octets_cons (omega arith) (one_octet (omega arith)))
 
 cause-fits : (c : Cause) → FitsCause c → Fits (cause c)
@@ -123,7 +123,7 @@ restart-fits class h = record { ident = omega arith; action = omega arith; conte
 
 elements_of_fit : (a : Reply) → Fitting a → EachFits (elements_of a)
 elements_of_fit reply.None h = none
-elements_of_fit (reply.CallProceeding p v) h = more (connection-fits p v) none
+elements_of_fit (reply.CallProceeding c) h = more (connection-fits c.vpci c.vci) none
 elements_of_fit reply.Connect h = none
 elements_of_fit reply.ConnectAcknowledge h = none
 elements_of_fit (reply.Release c) h = more (cause-fits c h) none
@@ -131,13 +131,13 @@ elements_of_fit reply.ReleaseComplete h = none
 elements_of_fit (reply.ReleaseCompleteWith c) h = more (cause-fits c h) none
 elements_of_fit (reply.Status s c) h = more (state_fits s h.state) (more (cause-fits c h.why) none)
 elements_of_fit reply.RestartAcknowledgeAll h = more (restart-fits 0x82 (omega arith)) none
-elements_of_fit (reply.RestartAcknowledge p v) h = more (restart-fits 0x80 (omega arith)) (more (connection-fits p v) none)
+elements_of_fit (reply.RestartAcknowledge c) h = more (restart-fits 0x80 (omega arith)) (more (connection-fits c.vpci c.vci) none)
 elements_of_fit reply.RestartAll h = more (restart-fits 0x82 (omega arith)) none
-elements_of_fit (reply.Restart p v) h = more (restart-fits 0x80 (omega arith)) (more (connection-fits p v) none)
+elements_of_fit (reply.Restart c) h = more (restart-fits 0x80 (omega arith)) (more (connection-fits c.vpci c.vci) none)
 
 kind_fits : (a : Reply) → kind_of a < 256
 kind_fits reply.None = omega arith
-kind_fits (reply.CallProceeding p v) = omega arith
+kind_fits (reply.CallProceeding c) = omega arith
 kind_fits reply.Connect = omega arith
 kind_fits reply.ConnectAcknowledge = omega arith
 kind_fits (reply.Release c) = omega arith
@@ -145,9 +145,9 @@ kind_fits reply.ReleaseComplete = omega arith
 kind_fits (reply.ReleaseCompleteWith c) = omega arith
 kind_fits (reply.Status s c) = omega arith
 kind_fits reply.RestartAcknowledgeAll = omega arith
-kind_fits (reply.RestartAcknowledge p v) = omega arith
+kind_fits (reply.RestartAcknowledge c) = omega arith
 kind_fits reply.RestartAll = omega arith
-kind_fits (reply.Restart p v) = omega arith
+kind_fits (reply.Restart c) = omega arith
 
 module _ (flag : Bool) (r : ℕ) (a : Reply) (small : r < 8388608) (fit : Fitting a) where
   pub reply_well_formed : WellFormed (meant flag r a)

@@ -22,7 +22,7 @@ abbrev pub FitsDiagnostic : Diagnostic → Type 0
 FitsDiagnostic diagnostic.None = Unit {0}
 FitsDiagnostic (diagnostic.Octet o) = o < 256
 FitsDiagnostic (diagnostic.Elements m) = Unit {0}
-FitsDiagnostic (diagnostic.Pair p v) = FitsPair p v
+FitsDiagnostic (diagnostic.Pair c) = FitsPair c.vpci c.vci
 FitsDiagnostic diagnostic.Timer = Unit {0}
 
 pub record FitsCause (c : Cause) : Type 0 where
@@ -35,7 +35,7 @@ pub record FitsStatus (s : ℕ) (c : Cause) : Type 0 where
 
 abbrev pub Fitting : Reply → Type 0
 Fitting reply.None = Unit {0}
-Fitting (reply.CallProceeding p v) = FitsPair p v
+Fitting (reply.CallProceeding c) = FitsPair c.vpci c.vci
 Fitting reply.Connect = Unit {0}
 Fitting reply.ConnectAcknowledge = Unit {0}
 Fitting (reply.Release c) = FitsCause c
@@ -43,9 +43,9 @@ Fitting reply.ReleaseComplete = Unit {0}
 Fitting (reply.ReleaseCompleteWith c) = FitsCause c
 Fitting (reply.Status s c) = FitsStatus s c
 Fitting reply.RestartAcknowledgeAll = Unit {0}
-Fitting (reply.RestartAcknowledge p v) = FitsPair p v
+Fitting (reply.RestartAcknowledge c) = FitsPair c.vpci c.vci
 Fitting reply.RestartAll = Unit {0}
-Fitting (reply.Restart p v) = FitsPair p v
+Fitting (reply.Restart c) = FitsPair c.vpci c.vci
 
 -- "a body of elements of at most 512 octets", "a whole number of elements, none overrunning"
 pub record OfferBody (offered : List ℕ) : Type 0 where

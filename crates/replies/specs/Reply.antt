@@ -41,7 +41,7 @@ abbrev pub diagnostic_octets : Diagnostic → List ℕ
 diagnostic_octets diagnostic.None = []
 diagnostic_octets (diagnostic.Octet o) = o ∷ []
 diagnostic_octets (diagnostic.Elements m) = identifiers m
-diagnostic_octets (diagnostic.Pair p v) = high p ∷ low p ∷ high v ∷ low v ∷ []
+diagnostic_octets (diagnostic.Pair c) = high c.vpci ∷ low c.vpci ∷ high c.vci ∷ low c.vci ∷ []
 diagnostic_octets diagnostic.Timer = 0x33 ∷ 0x31 ∷ 0x30 ∷ []
 
 -- "We write Cause with octet 2 80, location 81, the cause plus 80 hex, then diagnostics" (a cause number is below 128)
@@ -67,7 +67,7 @@ restart class = short 0x79 class
 -- RESTART ACKNOWLEDGE 4E, RELEASE COMPLETE 5A, STATUS ENQUIRY 75, STATUS 7D." (0 where there is no reply)
 abbrev pub kind_of : Reply → ℕ
 kind_of reply.None = 0
-kind_of (reply.CallProceeding p v) = 0x02
+kind_of (reply.CallProceeding c) = 0x02
 kind_of reply.Connect = 0x07
 kind_of reply.ConnectAcknowledge = 0x0F
 kind_of (reply.Release c) = 0x4D
@@ -75,15 +75,15 @@ kind_of reply.ReleaseComplete = 0x5A
 kind_of (reply.ReleaseCompleteWith c) = 0x5A
 kind_of (reply.Status s c) = 0x7D
 kind_of reply.RestartAcknowledgeAll = 0x4E
-kind_of (reply.RestartAcknowledge p v) = 0x4E
+kind_of (reply.RestartAcknowledge c) = 0x4E
 kind_of reply.RestartAll = 0x46
-kind_of (reply.Restart p v) = 0x46
+kind_of (reply.Restart c) = 0x46
 
 -- "STATUS holds Call state then Cause"; "RESTART ACKNOWLEDGE repeats 79 and, for 80, 5A, octet 2 written 80"; document 02, R-4: "We send
 -- RESTART with .. 79 and for one pair 5A"
 abbrev pub elements_of : Reply → List Element
 elements_of reply.None = []
-elements_of (reply.CallProceeding p v) = connection p v ∷ []
+elements_of (reply.CallProceeding c) = connection c.vpci c.vci ∷ []
 elements_of reply.Connect = []
 elements_of reply.ConnectAcknowledge = []
 elements_of (reply.Release c) = cause c ∷ []
@@ -91,13 +91,13 @@ elements_of reply.ReleaseComplete = []
 elements_of (reply.ReleaseCompleteWith c) = cause c ∷ []
 elements_of (reply.Status s c) = call_state s ∷ cause c ∷ []
 elements_of reply.RestartAcknowledgeAll = restart 0x82 ∷ []
-elements_of (reply.RestartAcknowledge p v) = restart 0x80 ∷ connection p v ∷ []
+elements_of (reply.RestartAcknowledge c) = restart 0x80 ∷ connection c.vpci c.vci ∷ []
 elements_of reply.RestartAll = restart 0x82 ∷ []
-elements_of (reply.Restart p v) = restart 0x80 ∷ connection p v ∷ []
+elements_of (reply.Restart c) = restart 0x80 ∷ connection c.vpci c.vci ∷ []
 
 abbrev pub is_silent : Reply → Bool
 is_silent reply.None = true
-is_silent (reply.CallProceeding p v) = false
+is_silent (reply.CallProceeding c) = false
 is_silent reply.Connect = false
 is_silent reply.ConnectAcknowledge = false
 is_silent (reply.Release c) = false
@@ -105,9 +105,9 @@ is_silent reply.ReleaseComplete = false
 is_silent (reply.ReleaseCompleteWith c) = false
 is_silent (reply.Status s c) = false
 is_silent reply.RestartAcknowledgeAll = false
-is_silent (reply.RestartAcknowledge p v) = false
+is_silent (reply.RestartAcknowledge c) = false
 is_silent reply.RestartAll = false
-is_silent (reply.Restart p v) = false
+is_silent (reply.Restart c) = false
 
 -- the message with this header and these elements
 abbrev pub headed : Heading → List Element → Message
@@ -134,4 +134,4 @@ body_room = 512
 -- what an event sends; an offer's body is sent with SETUP alone
 abbrev pub sent_octets : Bool → ℕ → Outgoing → List ℕ → List ℕ
 sent_octets flag r (outgoing.Reply a) body = reply_octets flag r a
-sent_octets flag r (outgoing.Setup p v) body = setup_octets r p v body
+sent_octets flag r (outgoing.Setup c) body = setup_octets r c.vpci c.vci body

@@ -13,6 +13,7 @@ ghost use Rattle.header.specs.MessageType.{number_of};
 ghost use Rattle.replies.specs.Message.{header, element_octets, octets};
 ghost use Rattle.replies.specs.Reply.{in_field, optional, identifiers, diagnostic_octets, cause, short, call_state, connection, restart, headed, reply_octets, setup_octets, reply_room, body_room, sent_octets};
 
+use channels::Pair;
 use header::MessageType;
 
 pub const REPLY_ROOM: usize = 1024;
@@ -35,8 +36,7 @@ pub enum Diagnostic {
     // A message type, or the identifier of an element.
     Octet(u8),
     Elements(Mandatory<bool>),
-    // VPCI and VCI.
-    Pair(u16, u16),
+    Pair(Pair),
     // The digits "310".
     Timer,
 }
@@ -51,8 +51,7 @@ pub struct Cause {
 #[derive(Clone, Copy)]
 pub enum Reply {
     None,
-    // VPCI and VCI.
-    CallProceeding(u16, u16),
+    CallProceeding(Pair),
     Connect,
     ConnectAcknowledge,
     Release(Cause),
@@ -61,18 +60,17 @@ pub enum Reply {
     // The call state, and why.
     Status(u8, Cause),
     RestartAcknowledgeAll,
-    // VPCI and VCI.
-    RestartAcknowledge(u16, u16),
-    // Our own RESTART: of all pairs, and of a VPCI and VCI.
+    RestartAcknowledge(Pair),
+    // Our own RESTART: of all pairs, and of one.
     RestartAll,
-    Restart(u16, u16),
+    Restart(Pair),
 }
 
-// What an event sends: a reply, or SETUP with the Connection identifier of a VPCI and a VCI and then an offer's body.
+// What an event sends: a reply, or SETUP with the Connection identifier of a pair and then an offer's body.
 #[derive(Clone, Copy)]
 pub enum Outgoing {
     Reply(Reply),
-    Setup(u16, u16),
+    Setup(Pair),
 }
 
 // The octets of a diagnostic field, at most four, at the front of an array.
@@ -113,12 +111,12 @@ fn identifier_field(named: Mandatory<bool>) -> Field
     .with(named.called, 0x70)
 }
 
-fn pair_field(vpci: u16, vci: u16) -> Field
-    ensures result_value { in_field result ≡ high vpci ∷ low vpci ∷ high vci ∷ low vci ∷ [] }
+fn pair_field(pair: Pair) -> Field
+    ensures result_value { in_field result ≡ high pair.vpci ∷ low pair.vpci ∷ high pair.vci ∷ low pair.vci ∷ [] }
     ensures size_bound { result.size ≤ 4 }
 {
-    let [p, q] = vpci.to_be_bytes();
-    let [v, w] = vci.to_be_bytes();
+    let [p, q] = pair.vpci.to_be_bytes();
+    let [v, w] = pair.vci.to_be_bytes();
     Field {
         octets: [p, q, v, w],
         size: 4,
@@ -139,7 +137,7 @@ fn diagnostic_field(diagnostic: Diagnostic) -> Field
             size: 1,
         },
         Diagnostic::Elements(named) => identifier_field(named),
-        Diagnostic::Pair(vpci, vci) => pair_field(vpci, vci),
+        Diagnostic::Pair(pair) => pair_field(pair),
         Diagnostic::Timer => Field {
             octets: *b"310\0",
             size: 3,
@@ -173,12 +171,12 @@ fn put_short(room: &mut [u8], at: usize, ident: u8, octet: u8) -> usize
     octets::put(room, at, &[ident, 0x80, 0, 1, octet])
 }
 
-fn put_connection(room: &mut [u8], at: usize, vpci: u16, vci: u16) -> usize
+fn put_connection(room: &mut [u8], at: usize, pair: Pair) -> usize
     requires { at + 9 ≤ length room.old }
-    ensures { Wrote room.old at (element_octets (connection vpci vci)) room.new result }
+    ensures { Wrote room.old at (element_octets (connection pair.vpci pair.vci)) room.new result }
 {
-    let [p, q] = vpci.to_be_bytes();
-    let [v, w] = vci.to_be_bytes();
+    let [p, q] = pair.vpci.to_be_bytes();
+    let [v, w] = pair.vci.to_be_bytes();
     octets::put(room, at, &[0x5A, 0x80, 0, 5, 0x88, p, q, v, w])
 }
 
@@ -216,12 +214,12 @@ impl Heading {
     }
 
     // A message with a Connection identifier.
-    fn write_connection(self, room: &mut [u8], vpci: u16, vci: u16) -> usize
+    fn write_connection(self, room: &mut [u8], pair: Pair) -> usize
         requires { 1024 ≤ length room.old }
-        ensures { Fills room.old (octets (headed self (connection vpci vci ∷ []))) room.new result }
+        ensures { Fills room.old (octets (headed self (connection pair.vpci pair.vci ∷ []))) room.new result }
     {
         let at = self.put(room, 9);
-        put_connection(room, at, vpci, vci)
+        put_connection(room, at, pair)
     }
 
     // A message with a Cause.
@@ -255,13 +253,13 @@ impl Heading {
     }
 
     // A message with a Restart indicator of one pair, and its Connection identifier.
-    fn write_restart_pair(self, room: &mut [u8], vpci: u16, vci: u16) -> usize
+    fn write_restart_pair(self, room: &mut [u8], pair: Pair) -> usize
         requires { 1024 ≤ length room.old }
-        ensures { Fills room.old (octets (headed self (restart 0x80 ∷ connection vpci vci ∷ []))) room.new result }
+        ensures { Fills room.old (octets (headed self (restart 0x80 ∷ connection pair.vpci pair.vci ∷ []))) room.new result }
     {
         let first = self.put(room, 14);
         let second = put_short(room, first, 0x79, 0x80);
-        put_connection(room, second, vpci, vci)
+        put_connection(room, second, pair)
     }
 }
 
@@ -278,9 +276,7 @@ fn write(room: &mut [u8], flag: bool, reference: u32, reply: Reply) -> usize
     };
     match reply {
         Reply::None => 0,
-        Reply::CallProceeding(vpci, vci) => of(MessageType::CallProceeding).write_connection(
-            room, vpci, vci,
-        ),
+        Reply::CallProceeding(pair) => of(MessageType::CallProceeding).write_connection(room, pair),
         Reply::Connect => of(MessageType::Connect).write_bare(room),
         Reply::ConnectAcknowledge => of(MessageType::ConnectAcknowledge).write_bare(room),
         Reply::Release(why) => of(MessageType::Release).write_cause(room, why),
@@ -288,19 +284,17 @@ fn write(room: &mut [u8], flag: bool, reference: u32, reply: Reply) -> usize
         Reply::ReleaseCompleteWith(why) => of(MessageType::ReleaseComplete).write_cause(room, why),
         Reply::Status(state, why) => of(MessageType::Status).write_status(room, state, why),
         Reply::RestartAcknowledgeAll => of(MessageType::RestartAcknowledge).write_restart_all(room),
-        Reply::RestartAcknowledge(vpci, vci) => of(
-            MessageType::RestartAcknowledge,
-        ).write_restart_pair(room, vpci, vci),
+        Reply::RestartAcknowledge(pair) => of(MessageType::RestartAcknowledge).write_restart_pair(room, pair),
         Reply::RestartAll => of(MessageType::Restart).write_restart_all(room),
-        Reply::Restart(vpci, vci) => of(MessageType::Restart).write_restart_pair(room, vpci, vci),
+        Reply::Restart(pair) => of(MessageType::Restart).write_restart_pair(room, pair),
     }
 }
 
 // Writes SETUP for a network-originated call, and answers its length.
-fn write_setup(room: &mut [u8], reference: u32, vpci: u16, vci: u16, body: &[u8]) -> usize
+fn write_setup(room: &mut [u8], reference: u32, pair: Pair, body: &[u8]) -> usize
     requires { (1024 ≤ length room.old) × (length body.now ≤ 512) }
-    ensures { (result ≡ length (setup_octets reference vpci vci body.now))
-        × (room.new ≡ front (setup_octets reference vpci vci body.now) room.old) }
+    ensures { (result ≡ length (setup_octets reference pair.vpci pair.vci body.now))
+        × (room.new ≡ front (setup_octets reference pair.vpci pair.vci body.now) room.old) }
 {
     let heading = Heading {
         flag: false,
@@ -308,7 +302,7 @@ fn write_setup(room: &mut [u8], reference: u32, vpci: u16, vci: u16, body: &[u8]
         kind: MessageType::Setup,
     };
     let first = heading.put(room, 9 + body.len());
-    let second = put_connection(room, first, vpci, vci);
+    let second = put_connection(room, first, pair);
     octets::put(room, second, body)
 }
 
@@ -320,6 +314,6 @@ pub fn send(room: &mut [u8], flag: bool, reference: u32, outgoing: Outgoing, bod
 {
     match outgoing {
         Outgoing::Reply(reply) => write(room, flag, reference, reply),
-        Outgoing::Setup(vpci, vci) => write_setup(room, reference, vpci, vci, body),
+        Outgoing::Setup(pair) => write_setup(room, reference, pair, body),
     }
 }

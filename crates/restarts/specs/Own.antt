@@ -41,7 +41,7 @@ Fits (target.One p v) = (p < 65536) × (v < 65536)
 -- "79 and for one pair 5A"
 abbrev pub restart_of : Named → Reply
 restart_of All = reply.RestartAll
-restart_of (One pv) = reply.Restart pv.vpci pv.vci
+restart_of (One pv) = reply.Restart pv
 
 -- "We send RESTART with global reference and flag 0, 79 and for one pair 5A, start T316 of 120,000 ms"
 abbrev pub requested : ℕ → Named → Bool → Effect

@@ -40,8 +40,8 @@ pair_restart state pool elem.Unreadable = restart_status state 100 (diagnostic.O
 pair_restart state pool (elem.Readable c) =
     cond (known_vpci pool c.vpci)
     (cond (ltb c.vci 32 || permanent pool c.vpci c.vci)
-    (restart_status state 82 (diagnostic.Pair c.vpci c.vci))
-    (restarting (named.One c) (reply.RestartAcknowledge c.vpci c.vci)))
+    (restart_status state 82 (diagnostic.Pair c))
+    (restarting (named.One c) (reply.RestartAcknowledge c)))
     (restart_status state 100 (diagnostic.Octet 0x5A))
 
 -- "79 absent, STATUS 96; unreadable, STATUS 100; both with diagnostic 79. .. or all calls for 82 (5A not looked at), are gone"

@@ -58,11 +58,11 @@ fn restart_pair(state: u8, pool: Pool, pair: Pair) -> Effect
         return restart_status(state, 100, Diagnostic::Octet(0x5A));
     }
     if is_barred(pool, pair) {
-        return restart_status(state, 82, Diagnostic::Pair(pair.vpci, pair.vci));
+        return restart_status(state, 82, Diagnostic::Pair(pair));
     }
     restarting(
         Named::One(pair),
-        Reply::RestartAcknowledge(pair.vpci, pair.vci),
+        Reply::RestartAcknowledge(pair),
     )
 }
 
@@ -124,7 +124,7 @@ fn restart_of(named: Named) -> Reply
 {
     match named {
         Named::All => Reply::RestartAll,
-        Named::One(pair) => Reply::Restart(pair.vpci, pair.vci),
+        Named::One(pair) => Reply::Restart(pair),
     }
 }
 

@@ -47,7 +47,7 @@ use Rattle.safety.specs.NoPair.{Says45, in_release, in_release_complete, in_stat
 
 abbrev cause_of : Reply → ℕ
 cause_of reply.None = 0
-cause_of (reply.CallProceeding p v) = 0
+cause_of (reply.CallProceeding c) = 0
 cause_of reply.Connect = 0
 cause_of reply.ConnectAcknowledge = 0
 cause_of (reply.Release c) = c.number
@@ -55,16 +55,16 @@ cause_of reply.ReleaseComplete = 0
 cause_of (reply.ReleaseCompleteWith c) = c.number
 cause_of (reply.Status s c) = c.number
 cause_of reply.RestartAcknowledgeAll = 0
-cause_of (reply.RestartAcknowledge p v) = 0
+cause_of (reply.RestartAcknowledge c) = 0
 cause_of reply.RestartAll = 0
-cause_of (reply.Restart p v) = 0
+cause_of (reply.Restart c) = 0
 
 abbrev is45 : Reply → Bool
 is45 a = eqb (cause_of a % 128) 45
 
 abbrev pub sends45 : Outgoing → Bool
 sends45 (outgoing.Reply a) = is45 a
-sends45 (outgoing.Setup p v) = false
+sends45 (outgoing.Setup c) = false
 
 -- types of messages that hold a Cause
 abbrev holds_cause : ℕ → Bool
@@ -81,7 +81,7 @@ cause_octet n h = eq-eqb (n % 128) 45 (omega arith)
 
 reply_says_45 : (flag : Bool) (r : ℕ) (a : Reply) → Says45 (reply_octets flag r a) → is45 a ≡ true
 reply_says_45 flag r reply.None s = unsaid _ refl s
-reply_says_45 flag r (reply.CallProceeding p v) s = unsaid _ refl s
+reply_says_45 flag r (reply.CallProceeding c) s = unsaid _ refl s
 reply_says_45 flag r reply.Connect s = unsaid _ refl s
 reply_says_45 flag r reply.ConnectAcknowledge s = unsaid _ refl s
 reply_says_45 flag r (reply.Release c) (in_release k d) = cause_octet c.number d
@@ -97,13 +97,13 @@ reply_says_45 flag r (reply.Status s c) (in_release k d) = absurd (omega arith)
 reply_says_45 flag r (reply.Status s c) (in_release_complete k d) = absurd (omega arith)
 reply_says_45 flag r (reply.Status s c) (in_status k d) = cause_octet c.number d
 reply_says_45 flag r reply.RestartAcknowledgeAll s = unsaid _ refl s
-reply_says_45 flag r (reply.RestartAcknowledge p v) s = unsaid _ refl s
+reply_says_45 flag r (reply.RestartAcknowledge c) s = unsaid _ refl s
 reply_says_45 flag r reply.RestartAll s = unsaid _ refl s
-reply_says_45 flag r (reply.Restart p v) s = unsaid _ refl s
+reply_says_45 flag r (reply.Restart c) s = unsaid _ refl s
 
 pub says_45 : (flag : Bool) (r : ℕ) (o : Outgoing) (body : List ℕ) → Says45 (sent_octets flag r o body) → sends45 o ≡ true
 says_45 flag r (outgoing.Reply a) body s = reply_says_45 flag r a s
-says_45 flag r (outgoing.Setup p v) body s = unsaid _ refl s
+says_45 flag r (outgoing.Setup c) body s = unsaid _ refl s
 
 -- Every other reply.
 

@@ -348,7 +348,7 @@ module _ (t : Table) (m : List ℕ) (h : Header) where
   pair_own elem.Unreadable = status_own 100 (diagnostic.Octet 0x5A)
   pair_own (elem.Readable c) =
       by_cond ShowsOwn (known_vpci t.pool c.vpci) _ _
-      (by_cond ShowsOwn (ltb c.vci 32 || permanent t.pool c.vpci c.vci) _ _ (status_own 82 (diagnostic.Pair c.vpci c.vci)) (λ k. absurd (omega arith)))
+      (by_cond ShowsOwn (ltb c.vci 32 || permanent t.pool c.vpci c.vci) _ _ (status_own 82 (diagnostic.Pair c)) (λ k. absurd (omega arith)))
       (status_own 100 (diagnostic.Octet 0x5A))
 
   restart_own : (r : Read ℕ) (c : Read Pair) → ShowsOwn (restart_effect (global_number t.global.state) t.pool r c)

@@ -124,7 +124,7 @@ duplicate_ignored t label reading room m i c q head kind n =
 -- octet 6 of a reply is its type
 pub reply_kind : (flag : Bool) (r : ℕ) (a : Reply) → get_or (reply_octets flag r a) 5 0 ≡ kind_of a
 reply_kind flag r reply.None = refl
-reply_kind flag r (reply.CallProceeding p v) = refl
+reply_kind flag r (reply.CallProceeding c) = refl
 reply_kind flag r reply.Connect = refl
 reply_kind flag r reply.ConnectAcknowledge = refl
 reply_kind flag r (reply.Release c) = refl
@@ -132,18 +132,18 @@ reply_kind flag r reply.ReleaseComplete = refl
 reply_kind flag r (reply.ReleaseCompleteWith c) = refl
 reply_kind flag r (reply.Status s c) = refl
 reply_kind flag r reply.RestartAcknowledgeAll = refl
-reply_kind flag r (reply.RestartAcknowledge p v) = refl
+reply_kind flag r (reply.RestartAcknowledge c) = refl
 reply_kind flag r reply.RestartAll = refl
-reply_kind flag r (reply.Restart p v) = refl
+reply_kind flag r (reply.Restart c) = refl
 
 -- and so of all that is sent
 abbrev pub sent_kind : Outgoing → ℕ
 sent_kind (outgoing.Reply a) = kind_of a
-sent_kind (outgoing.Setup p v) = 0x05
+sent_kind (outgoing.Setup c) = 0x05
 
 pub sent_kind_lem : (flag : Bool) (r : ℕ) (o : Outgoing) (body : List ℕ) → get_or (sent_octets flag r o body) 5 0 ≡ sent_kind o
 sent_kind_lem flag r (outgoing.Reply a) body = reply_kind flag r a
-sent_kind_lem flag r (outgoing.Setup p v) body = refl
+sent_kind_lem flag r (outgoing.Setup c) body = refl
 
 abbrev NotStatus : Reply → Type 0
 NotStatus a = kind_of a ≢ 0x7D

@@ -122,7 +122,7 @@ user_call r p v = record { network = false; pair = pair p v; reference = r }
 
 abbrev pub on_pair : ℕ → ℕ → Option Pair → Effect
 on_pair r i None = replying true r (reply.ReleaseCompleteWith (plain_cause 45))
-on_pair r i (Some pv) = assigned i (user_call r pv.vpci pv.vci) N3 true (outgoing.Reply (reply.CallProceeding pv.vpci pv.vci))
+on_pair r i (Some pv) = assigned i (user_call r pv.vpci pv.vci) N3 true (outgoing.Reply (reply.CallProceeding pv))
 
 -- "47 no empty slot; 45 no permitted pair free"
 abbrev pub admitted : Table → ℕ → Option ℕ → Effect

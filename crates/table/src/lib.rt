@@ -83,7 +83,7 @@ fn set_up_on(reference: u32, i: usize, free: Option<Pair>) -> Effect
         pair,
         reference,
     };
-    let reply = Reply::CallProceeding(pair.vpci, pair.vci);
+    let reply = Reply::CallProceeding(pair);
     assign(i, call, State::N3, true, Outgoing::Reply(reply))
 }
 

@@ -118,13 +118,13 @@ pub data Declined (c : Read Pair) : ℕ → Diagnostic → Type 0 where
   bad_class : Declined c 100 (diagnostic.Octet 0x79)
   no_pair_lem : Declined c 96 (diagnostic.Octet 0x5A)
   bad_pair : Declined c 100 (diagnostic.Octet 0x5A)
-  barred : (p v : ℕ) → c ≡ pair_read p v → Declined c 82 (diagnostic.Pair p v)
+  barred : (p v : ℕ) → c ≡ pair_read p v → Declined c 82 (diagnostic.Pair (pair p v))
 
 -- what a RESTART names, and what it is answered
 pub data Names (t : Table) (r : Read ℕ) (c : Read Pair) : Named → Reply → Type 0 where
   all : (k : ℕ) → r ≡ elem.Readable k → eqb k 0x82 ≡ true → Names t r c named.All reply.RestartAcknowledgeAll
   one : (k p v : ℕ) → r ≡ elem.Readable k → eqb k 0x82 ≡ false → c ≡ pair_read p v → known_vpci t.pool p ≡ true
-      → (ltb v 32 || permanent t.pool p v) ≡ false → Names t r c (named.One (pair p v)) (reply.RestartAcknowledge p v)
+      → (ltb v 32 || permanent t.pool p v) ≡ false → Names t r c (named.One (pair p v)) (reply.RestartAcknowledge (pair p v))
 
 -- a tick fires T316
 abbrev pub T316Fires : Table → Event → Type 0
@@ -148,7 +148,7 @@ pub data Does (t : Table) (e : Event) : Effect → Type 0 where
       → Does t e (replying true h.reference (reply.ReleaseCompleteWith (plain_cause 45)))
   -- a SETUP gets a slot and a pair
   admits : (m : List ℕ) (h : Header) (i p v : ℕ) → IsSetup t m h e → admission m 9 ≡ Ok tt → place is_empty t.slots.all ≡ Some i → free_pair t ≡ Some (pair p v)
-      → Does t e (assigned i (user_call h.reference p v) N3 true (outgoing.Reply (reply.CallProceeding p v)))
+      → Does t e (assigned i (user_call h.reference p v) N3 true (outgoing.Reply (reply.CallProceeding (pair p v))))
   -- an offer gets a slot, a pair and a reference
   offers : (i p v : ℕ) → IsOffer e → place is_empty t.slots.all ≡ Some i → free_pair t ≡ Some (pair p v)
       → Does t e (offered_on (reading_of e) i (unused_reference t.slots.all) p v)
@@ -201,8 +201,8 @@ module _ (t : Table) (label reading room : ℕ) (m : List ℕ) where
       pair_does k (elem.Readable c) f g n =
           by_choice D (known_vpci t.pool c.vpci) _ _
           (λ known. by_choice D (ltb c.vci 32 || permanent t.pool c.vpci c.vci) _ _
-          (λ bar. declines m h 82 (diagnostic.Pair c.vpci c.vci) restart (barred c.vpci c.vci f))
-          (λ fair. restarts m h (named.One c) (reply.RestartAcknowledge c.vpci c.vci) restart (one k c.vpci c.vci g n f known fair)))
+          (λ bar. declines m h 82 (diagnostic.Pair c) restart (barred c.vpci c.vci f))
+          (λ fair. restarts m h (named.One c) (reply.RestartAcknowledge c) restart (one k c.vpci c.vci g n f known fair)))
           (λ unknown. declines m h 100 (diagnostic.Octet 0x5A) restart bad_pair)
 
       restart_does : (r : Read ℕ) → restart_in m 9 ≡ r → D (restart_effect (global_number t.global.state) t.pool r (connection_in m 9))

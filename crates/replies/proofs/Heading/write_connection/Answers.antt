@@ -10,5 +10,5 @@ use Rattle.replies.specs.Reply.{connection}
 use Rattle.replies.proofs.Heading.write_connection.Goals as goal
 
 pub returns : goal.returns
-returns c = whole c.args.self.flag c.args.self.reference (number_of c.args.self.kind) 9 (connection c.args.vpci c.args.vci ∷ []) refl (omega arith)
+returns c = whole c.args.self.flag c.args.self.reference (number_of c.args.self.kind) 9 (connection c.args.pair.vpci c.args.pair.vci ∷ []) refl (omega arith)
     (chain c.put-at.ensures c.put_connection.ensures)
