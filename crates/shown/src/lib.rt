@@ -70,7 +70,13 @@ fn calling(m: &[u8]) -> Option<(usize, usize)>
     if !is_setup(m) {
         return None;
     }
-    let Item::Whole(_, 0x80, start, end) = items::first_of(m, 9, 0x6C) else {
+    let Item::Whole {
+        action: 0x80,
+        start,
+        end,
+        ..
+    } = items::first_of(m, 9, 0x6C)
+    else {
         return None;
     };
     let c = &m[start..end];
