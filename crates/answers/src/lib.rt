@@ -2,7 +2,8 @@
 //   put_hex         octets in lower-case hex, or `-` for none
 //   put_flags       slot numbers in ascending order, joined by commas, or `-` for none
 //   put_answer      a whole answer line
-// Each asks for room; octets around what it writes are unchanged. Assumes nothing.
+// Each asks for room; octets around what it writes are unchanged. The buffer and the place stay two parameters: `Wrote`, which each
+// ensures, names both. Assumes nothing.
 #![tactic(auto)]
 
 ghost use Rattle.std.specs.Prelude.{◌≡◌, true, cond, [], ◌+◌, ◌*◌, ◌≤◌, ◌<◌, length};

@@ -1,7 +1,8 @@
 // Numbers in ASCII, written at a place of a lent buffer.
 //   put_decimal     a number below 2^64 in decimal
 //   put_octet       a number below 256 in decimal: at most three digits
-// Each asks for room; octets around what it writes are unchanged. Assumes nothing.
+// Each asks for room; octets around what it writes are unchanged. The buffer and the place stay two parameters: `Wrote`, which each
+// ensures, names both. Assumes nothing.
 #![tactic(auto)]
 
 ghost use Rattle.std.specs.Prelude.{◌≡◌, ◌+◌, ◌≤◌, ◌<◌, length};

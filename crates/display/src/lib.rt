@@ -2,7 +2,8 @@
 //   find            if a line asks whose number is shown, and where its words stand
 //   put_answer      the answer line
 //   put_words       the line for people behind it
-// Each writer writes at a place of a lent buffer, asks for room there, and answers the place behind. Assumes nothing.
+// Each writer writes at a place of a lent buffer, asks for room there, and answers the place behind. The buffer and the place stay two
+// parameters: `Wrote`, which each ensures, names both. Assumes nothing.
 #![tactic(auto)]
 
 ghost use Rattle.std.specs.Prelude.{◌+◌, ◌*◌, ◌≤◌, ◌≡◌, length, IfSome};

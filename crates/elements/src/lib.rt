@@ -57,8 +57,12 @@ pub fn look_for(m: &[u8], from: usize, id: u8) -> Read<Part>
 {
     match items::first_of(m, from, id) {
         Item::End => Read::Absent,
-        Item::Whole(_, action, start, end)
-            if action_fits(id, action) && contents::fits(id, &m[start..end]) => {
+        Item::Whole {
+            action,
+            start,
+            end,
+            ..
+        } if action_fits(id, action) && contents::fits(id, &m[start..end]) => {
             Read::Readable(Part { start, end })
         }
         _ => Read::Unreadable,

@@ -71,7 +71,7 @@ fn nothing(table: Table) -> Answer {
     Answer {
         table,
         length: 0,
-        notice: 0,
+        notice: None,
         flags: Flags::none(),
         more: false,
     }

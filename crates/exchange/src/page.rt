@@ -119,7 +119,7 @@ impl Page {
             at,
             refusal,
             reply,
-            answer.notice,
+            answer.notice.map_or(0, |notice| notice.number()),
             answer.flags,
             answer.more,
         );

@@ -1,6 +1,7 @@
 // A line for people: what came in and what went out by name, and what became of the calls.
 //   put_line     the line behind an answer
-// Each function writes at a place of a lent buffer, asks for room there, and answers the place behind. Assumes nothing.
+// Each function writes at a place of a lent buffer, asks for room there, and answers the place behind. The buffer and the place stay
+// two parameters: `Wrote`, which each ensures, names both. Assumes nothing.
 #![tactic(auto)]
 
 ghost use Rattle.std.specs.Prelude.{◌≡◌, ◌++◌, ◌+◌, ◌<◌, ◌≤◌, length};

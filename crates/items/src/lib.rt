@@ -15,7 +15,12 @@ ghost use Rattle.items.specs.Items.{item_at, items, Inside, first_of, count_of, 
 pub enum Item {
     End,
     Overrun(u8),
-    Whole(u8, u8, usize, usize),
+    Whole {
+        id: u8,
+        action: u8,
+        start: usize,
+        end: usize,
+    },
 }
 
 pub fn item_at(m: &[u8], at: usize) -> Item
@@ -29,7 +34,12 @@ pub fn item_at(m: &[u8], at: usize) -> Item
     if rest.len() < n {
         return Item::Overrun(*id);
     }
-    Item::Whole(*id, *action, start, start + n)
+    Item::Whole {
+        id: *id,
+        action: *action,
+        start,
+        end: start + n,
+    }
 }
 
 // The first element of an identifier, `End` where there is none.
@@ -42,7 +52,7 @@ pub fn first_of(m: &[u8], from: usize, id: u8) -> Item
     loop {
         match item_at(m, at) {
             Item::Overrun(met) if met != id => return Item::End,
-            Item::Whole(met, _, _, end) if met != id => at = end,
+            Item::Whole { id: met, end, .. } if met != id => at = end,
             found => return found,
         }
     }
@@ -66,7 +76,7 @@ pub fn count(m: &[u8], from: usize, id: u8) -> usize
         match item_at(m, at) {
             Item::End => return n,
             Item::Overrun(met) => return n + one_if(met, id),
-            Item::Whole(met, _, _, end) => {
+            Item::Whole { id: met, end, .. } => {
                 n += one_if(met, id);
                 at = end;
             }
@@ -83,7 +93,7 @@ pub fn whole(m: &[u8], from: usize) -> bool
         match item_at(m, at) {
             Item::End => return at == m.len(),
             Item::Overrun(_) => return false,
-            Item::Whole(_, _, _, end) => at = end,
+            Item::Whole { end, .. } => at = end,
         }
     }
 }

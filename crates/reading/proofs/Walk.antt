@@ -1,29 +1,23 @@
 -- Laws for the loops of the reader.
---   Listed, listed-none, listed_more, listed_list     numbers read into an array
---   Walked, walked_none, walked_more, walked_all      slots read into an array, their fields one behind the other
---   fours_more, four_next                             numbers of four octets read into an array
---   counted                             the length of the front of an array
---   provision_same, table_parts         the whole table
+--   Listed, listed_more, listed_list    numbers read into an array
+--   Walked, walked_more, walked_all     slots read into an array, their fields one behind the other
+--   fours_more, four_next               numbers of four octets read into an array
+--   least_min                           the smaller of two numbers
 -- Assumes nothing.
-use Prim.Native.Nat.{ℕ, zero, suc, ◌+◌, ◌*◌, ◌-◌, ◌/◌, ◌≤◌, ◌<◌}
+use Rattle.std.proofs.lemmas.Bool.Decides.{nat_tests}
+use Prim.Native.Nat.{ℕ, min, zero, suc, ◌+◌, ◌*◌, ◌-◌, ◌/◌, ◌≤◌, ◌<◌}
 use mathlib.Core.Path.{◌≡◌, refl, sym, ap, ◌∙◌}
 use mathlib.Core.Logic.{◌≢◌}
 use mathlib.Core.List.{List, [], ◌∷◌, ◌++◌, append_assoc, append-nil}
 use native.Mathlib.Omega.{arith}
 use native.Mathlib.Numerals.{add-one}
 use lib.Dec.{eqb}
-use lib.ListN.{length, get_or, set, take, drop, length-take}
+use lib.ListN.{length, get_or, set, take, drop}
 use lib.Seq.{get_or-drop, get_or-set_same, get_or-set_other, take-suc-set, take_all}
 use borrow.Author.Tests.{eqb-true, eqb-false}
 use Rattle.channels.proofs.Cases.{by_test}
-use Rattle.channels.specs.declared.Pool.{Pool}
-use Rattle.pairs.specs.declared.Pairs.{Pairs}
-use Rattle.service.specs.declared.GlobalState.{GlobalState}
-use Rattle.service.specs.declared.OutOfService.{OutOfService}
-use Rattle.provisioning.specs.Provisioning.{provision}
 use Rattle.calls.specs.declared.Slot.{Slot}
-use Rattle.slots.specs.declared.Slots.{Slots}
-use Rattle.reading.specs.Reading.{two_at, four_at, eight_at, rest, numbers_in, least, list_in, fours_in, doubts_in, out_in, request_in, slot_in, behind_slot, slots_in, table_with}
+use Rattle.reading.specs.Reading.{two_at, four_at, numbers_in, least, list_in, fours_in, slot_in, behind_slot, slots_in}
 
 -- the first k numbers of the contents are read
 pub record Listed (f numbers : List ℕ) (k : ℕ) : Type 0 where
@@ -57,9 +51,6 @@ pub listed_list : (most room : ℕ) (f numbers : List ℕ) (k n : ℕ) → Liste
     → take n numbers ≡ list_in most f
 listed_list most room f numbers k n l h size few e = listed_all f numbers k n l (omega arith) (omega arith) ∙ ap (numbers_in (drop 3 f)) e
 
-pub listed-none : (f numbers : List ℕ) → Listed f numbers 0
-listed-none f numbers = record { each = λ j h. absurd (omega arith) }
-
 pub listed_more : (f numbers : List ℕ) (k v : ℕ) → k < length numbers → v ≡ two_at f (3 + k * 2) → Listed f numbers k → Listed f (set numbers k v) (k + 1)
 listed_more f numbers k v h e l = record {
   each = λ j less.
@@ -71,9 +62,6 @@ listed_more f numbers k v h e l = record {
 -- the first i slots are read, and the field of the next, if it has one, is at this place
 pub record Walked (f : List ℕ) (at n : ℕ) (all : List Slot) (next i : ℕ) : Type 0 where
   pub same : slots_in 0 (drop at f) n ≡ take i all ++ slots_in i (drop next f) (n - i)
-
-pub walked_none : (f : List ℕ) (at n : ℕ) (all : List Slot) → Walked f at n all at 0
-walked_none f at n all = let e : n ≡ n - 0 = omega arith in record { same = ap (slots_in 0 (drop at f)) e }
 
 slots_suc : (i m : ℕ) (f : List ℕ) → slots_in i f (suc m) ≡ slot_in i f ∷ slots_in (i + 1) (behind_slot i f) m
 unfolding slots_in
@@ -108,17 +96,6 @@ pub four_next : (from : ℕ) (f ns : List ℕ) (k v : ℕ) → k < length ns →
     → take (k + 1) (set ns k v) ≡ fours_in (drop from f) (k + 1)
 four_next from f ns k v h e left = rw (add-one k, fours_more (drop from f) k, four_behind from f (k * 4), ← e, ← left) (take-suc-set ns k v h)
 
-pub counted : (n : ℕ) (a : List ℕ) → n ≤ length a → n ≡ length (take n a)
-counted n a h = simp length-take (omega arith)
-
--- the answer to the lists depends on the lists alone
-pub provision_same : (rs ps rs₁ ps₁ : List ℕ) → rs ≡ rs₁ → ps ≡ ps₁ → provision rs ps ≡ provision rs₁ ps₁
-provision_same rs ps rs₁ ps₁ a b = ap (λ (r : List ℕ). provision r ps) a ∙ ap (provision rs₁) b
-
--- the table, by its parts
-pub table_parts : (f f₂ f₃ f₄ f₅ f₆ : List ℕ) (ss : Slots) (n : ℕ) (ds : Pairs) (q : GlobalState) (out : OutOfService) (pool : Pool) (count : ℕ)
-    → rest (rest f) ≡ f₂ → rest f₂ ≡ f₃ → rest f₃ ≡ f₄ → rest f₄ ≡ f₅ → rest f₅ ≡ f₆
-    → ss.all ≡ slots_in 0 f₆ count → n ≡ eight_at f₂ 3 → ds ≡ doubts_in f₃ → out ≡ out_in f₄ → q ≡ request_in f₅
-    → record { slots = ss; last = n; doubts = ds; global = record { state = q }; out = out; pool = pool } ≡ table_with pool count f
-table_parts f f₂ f₃ f₄ f₅ f₆ ss n ds q out pool count a b c d e slots last doubts marks request =
-    rw (a, b, c, d, e, ← slots, ← last, ← doubts, ← marks, ← request)
+-- the smaller of two numbers
+pub least_min : (a b : ℕ) → min a b ≡ least a b
+least_min a b = grind (arith, nat_tests)

@@ -18,6 +18,7 @@ use slots::{SLOTS, Slots};
 use table::Table;
 
 // A list of start, in the front of an array.
+// Stays an array with a count: no heap (project rule).
 #[derive(Clone, Copy)]
 struct List {
     numbers: [u16; 16],
@@ -50,20 +51,32 @@ fn four_in(form: &[u8], at: usize, k: usize) -> u32
     requires { (at ≤ 4294967296) × (k ≤ 508) }
     ensures { result ≡ four_at (drop at form.now) k }
 {
-    let first = two_in(form, at, k) as u32;
-    let second = two_in(form, at, k + 2) as u32;
-    first * 65536 + second
+    u32::from_be_bytes([
+        octet_in(form, at, k),
+        octet_in(form, at, k + 1),
+        octet_in(form, at, k + 2),
+        octet_in(form, at, k + 3),
+    ])
 }
 
 fn eight_in(form: &[u8], at: usize, k: usize) -> u64
     requires { (at ≤ 4294967296) × (k ≤ 504) }
     ensures { result ≡ eight_at (drop at form.now) k }
 {
-    let first = two_in(form, at, k) as u64;
-    let second = two_in(form, at, k + 2) as u64;
-    let third = two_in(form, at, k + 4) as u64;
-    let fourth = two_in(form, at, k + 6) as u64;
-    first * 281474976710656 + second * 4294967296 + third * 65536 + fourth
+    let first = u64::from(four_in(form, at, k));
+    let second = u64::from(four_in(form, at, k + 4));
+    first << 32 | second
+}
+
+// The pair whose VPCI and VCI stand at octet k of the field at a place.
+fn pair_in(form: &[u8], at: usize, k: usize) -> Pair
+    requires { (at ≤ 4294967296) × (k ≤ 500) }
+    ensures { result ≡ record { vpci = two_at (drop at form.now) k; vci = two_at (drop at form.now) (k + 2) } }
+{
+    Pair {
+        vpci: two_in(form, at, k),
+        vci: two_in(form, at, k + 2),
+    }
 }
 
 // The place behind the field at a place.
@@ -72,15 +85,7 @@ fn behind(form: &[u8], at: usize) -> usize
     ensures form_value { drop result form.now ≡ rest (drop at form.now) }
     ensures near { result ≤ at + 65538 }
 {
-    let size = two_in(form, at, 1) as usize;
-    at + 3 + size
-}
-
-fn least(a: usize, b: usize) -> usize
-    ensures value { result ≡ least a b }
-    ensures small { result ≤ a }
-{
-    a.min(b)
+    at + 3 + usize::from(two_in(form, at, 1))
 }
 
 // The numbers of the field at a place, at most so many.
@@ -90,13 +95,13 @@ fn list_in(form: &[u8], at: usize, most: usize) -> List
     ensures few { (result.n ≤ 16) × (length result.numbers ≡ 16) }
 {
     let mut numbers = [0u16; 16];
-    for k in 0..16 {
-        numbers[k] = two_in(form, at, 3 + k * 2);
+    for (k, number) in numbers.iter_mut().enumerate() {
+        *number = two_in(form, at, 3 + k * 2);
     }
-    let size = two_in(form, at, 1) as usize;
+    let size = usize::from(two_in(form, at, 1));
     List {
-        numbers: numbers,
-        n: least(most, size / 2),
+        numbers,
+        n: most.min(size / 2),
     }
 }
 
@@ -114,16 +119,13 @@ fn pairs_in(form: &[u8], at: usize, from: usize) -> Pairs
     requires { (at ≤ 4294967296) × (from ≤ 4) }
     ensures { result ≡ pairs_in from (drop at form.now) }
 {
-    let size = two_in(form, at, 1) as usize;
-    let n = least(ROOM, size / 4);
+    let size = usize::from(two_in(form, at, 1));
+    let count = ROOM.min(size / 4);
     let mut numbers = [0; ROOM];
-    for k in 0..n {
+    for k in 0..count {
         numbers[k] = four_in(form, at, from + k * 4);
     }
-    Pairs {
-        count: n,
-        numbers: numbers,
-    }
+    Pairs { count, numbers }
 }
 
 // The pairs out of service, their field at a place.
@@ -131,10 +133,9 @@ fn out_in(form: &[u8], at: usize) -> OutOfService
     requires { at ≤ 4294967296 }
     ensures { result ≡ out_in (drop at form.now) }
 {
-    let pairs = pairs_in(form, at, 4);
     OutOfService {
         all: octet_in(form, at, 3) == 1,
-        pairs: pairs,
+        pairs: pairs_in(form, at, 4),
     }
 }
 
@@ -144,12 +145,10 @@ fn named_in(form: &[u8], at: usize) -> Named
     ensures { result ≡ named_in (drop at form.now) }
 {
     if two_in(form, at, 1) == 13 {
-        return Named::One(Pair {
-            vpci: two_in(form, at, 12),
-            vci: two_in(form, at, 14),
-        });
+        Named::One(pair_in(form, at, 12))
+    } else {
+        Named::All
     }
-    Named::All
 }
 
 // Our RESTART, its field at a place.
@@ -158,13 +157,14 @@ fn request_in(form: &[u8], at: usize) -> GlobalState
     ensures { result ≡ request_in (drop at form.now) }
 {
     if two_in(form, at, 1) == 0 {
-        return GlobalState::Null;
+        GlobalState::Null
+    } else {
+        GlobalState::RestartRequest(
+            named_in(form, at),
+            octet_in(form, at, 3) == 2,
+            eight_in(form, at, 4),
+        )
     }
-    GlobalState::RestartRequest(
-        named_in(form, at),
-        octet_in(form, at, 3) == 2,
-        eight_in(form, at, 4),
-    )
 }
 
 // Which T308 runs, and why the call is cleared.
@@ -175,7 +175,7 @@ fn clearing_in(form: &[u8], at: usize) -> Clearing
     let cause = octet_in(form, at, 21);
     Clearing {
         second: octet_in(form, at, 20) == 2,
-        cause: cause,
+        cause,
         expired: cause == 102,
     }
 }
@@ -197,10 +197,12 @@ fn reference_in(form: &[u8], at: usize) -> u32
     requires { at ≤ 4294967296 }
     ensures { result ≡ reference_in (drop at form.now) }
 {
-    let top = (octet_in(form, at, 4) % 128) as u32;
-    let middle = octet_in(form, at, 5) as u32;
-    let bottom = octet_in(form, at, 6) as u32;
-    top * 65536 + middle * 256 + bottom
+    u32::from_be_bytes([
+        0,
+        octet_in(form, at, 4) % 128,
+        octet_in(form, at, 5),
+        octet_in(form, at, 6),
+    ])
 }
 
 fn call_in(form: &[u8], at: usize) -> Call
@@ -209,10 +211,7 @@ fn call_in(form: &[u8], at: usize) -> Call
 {
     Call {
         network: 128 <= octet_in(form, at, 4),
-        pair: Pair {
-            vpci: two_in(form, at, 7),
-            vci: two_in(form, at, 9),
-        },
+        pair: pair_in(form, at, 7),
         reference: reference_in(form, at),
     }
 }
@@ -222,10 +221,7 @@ fn is_begun(form: &[u8], at: usize, slot: usize) -> bool
     requires { at ≤ 4294967296 }
     ensures { result ≡ begins slot (drop at form.now) }
 {
-    if form.len() <= at {
-        return false;
-    }
-    octets::wide(octet_in(form, at, 3)) == slot
+    at < form.len() && usize::from(octet_in(form, at, 3)) == slot
 }
 
 // One slot.
@@ -235,16 +231,15 @@ fn step_in(form: &[u8], at: usize, slot: usize) -> Step
     ensures near { result.next ≤ at + 65538 }
 {
     if is_begun(form, at, slot) {
-        let live = Slot::live(call_in(form, at), state_in(form, at));
-        return Step {
-            slot: live,
+        Step {
+            slot: Slot::live(call_in(form, at), state_in(form, at)),
             next: behind(form, at),
-        };
-    }
-    let empty = Slot::empty();
-    Step {
-        slot: empty,
-        next: at,
+        }
+    } else {
+        Step {
+            slot: Slot::empty(),
+            next: at,
+        }
     }
 }
 
@@ -253,15 +248,14 @@ fn slots_in(form: &[u8], at: usize) -> Slots
     requires { at ≤ 393228 }
     ensures { result.all ≡ slots_in 0 (drop at form.now) slot_count }
 {
-    let empty = Slot::empty();
-    let mut all = [empty; SLOTS];
+    let mut all = [Slot::empty(); SLOTS];
     let mut next = at;
-    for i in 0..SLOTS {
-        let one = step_in(form, next, i);
-        all[i] = one.slot;
-        next = one.next;
+    for (i, slot) in all.iter_mut().enumerate() {
+        let step = step_in(form, next, i);
+        *slot = step.slot;
+        next = step.next;
     }
-    Slots { all: all }
+    Slots { all }
 }
 
 // The table that the octets say, with a pool.
@@ -274,17 +268,14 @@ pub fn table_of(form: &[u8], pool: Pool) -> Table
     let marked = behind(form, doubtful);
     let request = behind(form, marked);
     let fields = behind(form, request);
-    let all = slots_in(form, fields);
-    let doubts = pairs_in(form, doubtful, 3);
-    let out = out_in(form, marked);
-    let state = request_in(form, request);
-    let global = Global { state: state };
     Table {
-        slots: all,
+        slots: slots_in(form, fields),
         last: eight_in(form, reading, 3),
-        doubts: doubts,
-        global: global,
-        out: out,
-        pool: pool,
+        doubts: pairs_in(form, doubtful, 3),
+        global: Global {
+            state: request_in(form, request),
+        },
+        out: out_in(form, marked),
+        pool,
     }
 }

@@ -5,7 +5,7 @@
 // `put_form` asks for room; nothing else public has a `requires`. Assumes nothing.
 #![tactic(auto)]
 
-ghost use Rattle.std.specs.Prelude.{◌≡◌, cond, ◌+◌, ◌≤◌, length};
+ghost use Rattle.std.specs.Prelude.{◌≡◌, ◌+◌, ◌≤◌, length};
 ghost use Rattle.octets.specs.Octets.{Wrote, front};
 ghost use Rattle.pairs.specs.Pairs.{listed};
 ghost use Rattle.fields.specs.Fields.{four, eight, field, range_octets, channel_octets};
@@ -102,22 +102,14 @@ fn put_doubt_field(room: &mut [u8], at: usize, doubts: Pairs) -> usize
     fields::put_field(room, at, 5, &contents[..size])
 }
 
-// The octet that says if all pairs are out of service.
-fn all_octet(all: bool) -> u8
-    ensures { result ≡ cond all 1 0 }
-{
-    if all { 1 } else { 0 }
-}
-
 // The pairs out of service: if all are, then the single ones.
 fn put_out(room: &mut [u8], at: usize, out: OutOfService) -> usize
     requires { at + 257 ≤ length room.old }
     ensures wrote { Wrote room.old at (out_octets out) room.new result }
     ensures short { result ≤ at + 257 }
 {
-    let pairs = out.pairs;
-    let next = octets::put(room, at, &[all_octet(out.all)]);
-    put_pairs(room, next, pairs)
+    let next = octets::put(room, at, &[u8::from(out.all)]);
+    put_pairs(room, next, out.pairs)
 }
 
 // The field of the pairs out of service.
@@ -150,19 +142,13 @@ pub fn put_form(room: &mut [u8], at: usize, table: Table) -> usize
     ensures wrote { Wrote room.old at (form_of table) room.new result }
     ensures short { (result ≡ at + length (form_of table)) × (result ≤ at + longest) }
 {
-    let pool = table.pool;
-    let slots = table.slots;
-    let doubts = table.doubts;
-    let out = table.out;
-    let global = table.global;
-    let state = global.state;
-    let second = put_range_field(room, at, pool);
-    let third = put_permanent_field(room, second, pool);
+    let second = put_range_field(room, at, table.pool);
+    let third = put_permanent_field(room, second, table.pool);
     let fourth = put_reading_field(room, third, table.last);
-    let fifth = put_doubt_field(room, fourth, doubts);
-    let sixth = put_out_field(room, fifth, out);
-    let seventh = fields::put_request_field(room, sixth, state);
-    put_calls(room, seventh, slots)
+    let fifth = put_doubt_field(room, fourth, table.doubts);
+    let sixth = put_out_field(room, fifth, table.out);
+    let seventh = fields::put_request_field(room, sixth, table.global.state);
+    put_calls(room, seventh, table.slots)
 }
 
 // Writes the form at the front of the room, and answers its length; a room too small for it is refused and stays as it was.

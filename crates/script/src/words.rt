@@ -51,7 +51,8 @@ fn count_to(octet: u8, s: &[u8]) -> usize
     s.iter().position(|o| *o == octet).unwrap_or(s.len())
 }
 
-// The number behind the blank at place `at`, and the place behind it.
+// The number behind the blank at place `at`, and the place behind it. A line and its place stay two parameters here and above: the
+// definitions (`field_at`, and those of specs/Lines) name both.
 pub fn read_field(line: &[u8], at: usize) -> Option<(u64, usize)>
     ensures { result ≡ field_at line.now at }
 {

@@ -14,6 +14,7 @@ ghost use Rattle.header.specs.Header.{head_of};
 ghost use Rattle.shown.specs.Calling.{calling_fits, address_at, allowed};
 ghost use Rattle.shown.specs.Shown.{passes, calling_in, extent_of, Inside, Within, shown_of, beginning};
 
+use header::MessageType;
 use items::Item;
 use octets::octet_at;
 
@@ -57,7 +58,7 @@ fn is_allowed(c: &[u8]) -> bool
 fn is_setup(m: &[u8]) -> bool
     ensures { result ≡ passes (head_of m.now) }
 {
-    header::read(m).is_some_and(|head| head.whole && head.kind == 0x05)
+    header::read(m).is_some_and(|head| head.whole && head.kind == MessageType::Setup as u8)
 }
 
 // What a message shows of its calling number: nothing to go by, or so many octets of the message from a place
@@ -69,7 +70,13 @@ fn calling(m: &[u8]) -> Option<(usize, usize)>
     if !is_setup(m) {
         return None;
     }
-    let Item::Whole(_, 0x80, start, end) = items::first_of(m, 9, 0x6C) else {
+    let Item::Whole {
+        action: 0x80,
+        start,
+        end,
+        ..
+    } = items::first_of(m, 9, 0x6C)
+    else {
         return None;
     };
     let c = &m[start..end];

@@ -54,8 +54,8 @@ pub fn first_unknown(m: &[u8], from: usize) -> Option<Unknown>
     let mut at = from;
     loop {
         match items::item_at(m, at) {
-            Item::Whole(id, _, _, end) if is_known(id) => at = end,
-            Item::Whole(id, _, _, next) => return Some(Unknown { id, at, next }),
+            Item::Whole { id, end, .. } if is_known(id) => at = end,
+            Item::Whole { id, end: next, .. } => return Some(Unknown { id, at, next }),
             Item::Overrun(id) if !is_known(id) => return Some(Unknown {
                 id,
                 at,

@@ -6,4 +6,4 @@ use Rattle.reading.specs.Reading.{fours_in}
 use Rattle.reading.proofs.pairs_in.Given as goal
 
 abbrev pub invariant-loop-k : goal.invariant-loop-k
-invariant-loop-k l = (l.n ≤ room) × Filled l.numbers l.k × (take l.k l.numbers ≡ fours_in (drop l.from (drop l.at l.form)) l.k)
+invariant-loop-k l = (l.count ≤ room) × Filled l.numbers l.k × (take l.k l.numbers ≡ fours_in (drop l.from (drop l.at l.form)) l.k)
