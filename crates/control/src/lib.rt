@@ -131,10 +131,9 @@ pub fn offer(
 {
     refusals::common_refusal(table.last, label, reading, room.len())?;
     refusals::body_refusal(body)?;
-    let slots = table.slots;
-    let i = slots.lowest_empty().ok_or(Refusal::NoEmptySlot)?;
+    let i = table.slots.lowest_empty().ok_or(Refusal::NoEmptySlot)?;
     let pair = table.free_pair().ok_or(Refusal::NoFreePair)?;
-    let reference = slots.unused_reference();
+    let reference = table.slots.unused_reference();
     let effect = commands::offer_call(reading, i, reference, pair);
     Ok(outcome::accept(table, reading, effect, false, body, room))
 }
