@@ -105,7 +105,11 @@ fn judge_contents(kind: Kind, m: &[u8], state: State, reading: u64) -> Verdict
 {
     match kind {
         Kind::CallProceeding => moved(State::N9(reading + T310), Reply::None, None),
-        Kind::Connect => moved(State::N10, Reply::ConnectAcknowledge, Some(Notice::Answered)),
+        Kind::Connect => moved(
+            State::N10,
+            Reply::ConnectAcknowledge,
+            Some(Notice::Answered),
+        ),
         Kind::ConnectAcknowledge => answered(Reply::None),
         Kind::Release => ended(release_reply(m, state)),
         Kind::ReleaseComplete => ended(Reply::None),

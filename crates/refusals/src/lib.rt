@@ -167,10 +167,12 @@ fn may_restart(pool: Pool, target: Target) -> bool
     match target {
         Target::All => true,
         Target::One(vpci, vci) => {
-            vpci <= 65535 && vci <= 65535 && pool.permits(Pair {
-                vpci: vpci as u16,
-                vci: vci as u16,
-            })
+            vpci <= 65535
+                && vci <= 65535
+                && pool.permits(Pair {
+                    vpci: vpci as u16,
+                    vci: vci as u16,
+                })
         }
     }
 }

@@ -284,7 +284,9 @@ fn write(room: &mut [u8], flag: bool, reference: u32, reply: Reply) -> usize
         Reply::ReleaseCompleteWith(why) => of(MessageType::ReleaseComplete).write_cause(room, why),
         Reply::Status(state, why) => of(MessageType::Status).write_status(room, state, why),
         Reply::RestartAcknowledgeAll => of(MessageType::RestartAcknowledge).write_restart_all(room),
-        Reply::RestartAcknowledge(pair) => of(MessageType::RestartAcknowledge).write_restart_pair(room, pair),
+        Reply::RestartAcknowledge(pair) => of(MessageType::RestartAcknowledge).write_restart_pair(
+            room, pair,
+        ),
         Reply::RestartAll => of(MessageType::Restart).write_restart_all(room),
         Reply::Restart(pair) => of(MessageType::Restart).write_restart_pair(room, pair),
     }

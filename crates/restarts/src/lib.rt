@@ -60,10 +60,7 @@ fn restart_pair(state: u8, pool: Pool, pair: Pair) -> Effect
     if is_barred(pool, pair) {
         return restart_status(state, 82, Diagnostic::Pair(pair));
     }
-    restarting(
-        Named::One(pair),
-        Reply::RestartAcknowledge(pair),
-    )
+    restarting(Named::One(pair), Reply::RestartAcknowledge(pair))
 }
 
 // For 80: the pair of the Connection identifier.

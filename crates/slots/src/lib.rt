@@ -52,7 +52,10 @@ fn earlier(best: Option<Timer>, i: usize, deadline: u64) -> Option<Timer>
     ensures { result ≡ earlier best i deadline }
 {
     match best {
-        Some(least) if least.deadline <= deadline => Some(Timer { another: true, ..least }),
+        Some(least) if least.deadline <= deadline => Some(Timer {
+            another: true,
+            ..least
+        }),
         _ => Some(Timer {
             slot: i,
             deadline,

@@ -265,7 +265,7 @@ impl Table {
             self.out,
             self.global.state,
         )
-            .found
+        .found
     }
 
     // An admitted SETUP: it gets the lowest empty slot, where there is one.
