@@ -8,6 +8,7 @@
 // What they answer is outcome's `Answer`, or a `Refusal`: then the table that was given stays the table.
 // No event has a `requires`: what is wrong with its input is refused. A reply fills the front of the lent
 // room; octets behind it are unchanged. Assumes nothing.
+// Label and reading stay two parameters: as a struct they would be put together at each call, to be taken apart at once.
 #![tactic(auto)]
 
 ghost use Rattle.std.specs.Prelude.{◌≡◌, ◌≤◌, length};

@@ -188,7 +188,7 @@ fn sum_of(input: &[u8; 4]) -> Result<u64, Refusal> {
     )
 }
 
-// Reads until the room is full or the input ends.
+// Reads until the room is full or the input ends. Stays a `while`: it counts the octets that came, and walks no index.
 fn read_full(input: &mut impl Read, room: &mut [u8]) -> io::Result<()> {
     let mut n: usize = 0;
     while n < room.len() {

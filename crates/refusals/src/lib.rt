@@ -6,6 +6,8 @@
 //   body_refusal                        10; offer itself finds 11 and 12, where it looks for a slot and a pair
 //   restart_refusal                     1 to 4, and 13
 // Nothing has a `requires`. What an `Ok` says of the numbers is a second promise (`passed`), for those who go on. Assumes nothing.
+// The four numbers of `common_refusal` stay four parameters: they come from the table, the caller and the room, and a struct would be
+// put together at each call, to be taken apart at once.
 #![tactic(auto)]
 
 ghost use Rattle.std.specs.Prelude.{◌≡◌, true, ◌≤◌, ◌<◌, length, OnOk};

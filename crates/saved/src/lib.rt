@@ -60,6 +60,8 @@ fn put_pairs(room: &mut [u8], at: usize, pairs: Pairs) -> usize
     next
 }
 
+// The fields of lists are four of a shape: one function over the writer would need, for these three lines, a clause on the closure and
+// a ghost list of what it writes.
 // The field of the permitted ranges.
 fn put_range_field(room: &mut [u8], at: usize, pool: Pool) -> usize
     requires { at + 27 ≤ length room.old }
