@@ -51,6 +51,7 @@ pub struct Call {
     pub reference: u32,
 }
 
+// Stays an enum: `Option<(Call, State)>` takes 40 octets in place of 32, and each event copies 32 of them.
 #[derive(Clone, Copy)]
 pub enum Hold {
     Empty,

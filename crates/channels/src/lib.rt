@@ -41,7 +41,7 @@ pub struct Pool {
     pub permanents: [Option<Pair>; PERMANENTS],
 }
 
-// The pairs that a RESTART names: all, or one.
+// The pairs that a RESTART names: all, or one. Stays an enum: `All` is every pair, and no absence of one.
 #[derive(Clone, Copy)]
 pub enum Named {
     All,

@@ -74,7 +74,7 @@ fn print_lines(rt: &impl Print, table: &[u8]) -> Result<()> {
     Ok(())
 }
 
-// Reads until the room is full or the input ends, and answers how many octets came.
+// Reads until the room is full or the input ends, and answers how many octets came. Stays a `while`: it counts what came, and walks no index.
 fn read_full(input: &mut impl Read, room: &mut [u8]) -> Result<usize>
     ensures { IfOk result (λ n. n ≤ length room.new) }
 {

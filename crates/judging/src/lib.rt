@@ -20,7 +20,7 @@ use header::{Header, MessageType};
 use replies::{Diagnostic, Reply};
 use verdicts::{Notice, Verdict, answered, because, ended, moved, plain_cause};
 
-// What a message is to a live call.
+// What a message is to a live call. `Unknown` stays a variant: it is one of four answers, with an effect of its own.
 #[derive(Clone, Copy)]
 pub enum Class {
     Ignored,

@@ -17,6 +17,7 @@ use channels::{Named, Pair};
 pub const ROOM: usize = 64;
 
 // The first `count` of the numbers are pairs, ascending; those behind them are 0.
+// Stays an array with a count: no heap (project rule).
 #[derive(Clone, Copy)]
 pub struct Pairs {
     pub count: usize,

@@ -29,7 +29,7 @@ pub struct Mandatory<T> {
     pub called: T,
 }
 
-// What a cause's diagnostic field says.
+// What a cause's diagnostic field says. `None` stays a variant: an empty field is one of the things that it can say.
 #[derive(Clone, Copy)]
 pub enum Diagnostic {
     None,
@@ -48,6 +48,7 @@ pub struct Cause {
     pub diagnostic: Diagnostic,
 }
 
+// What is sent of a call. `None` stays a variant: the definitions have silence among the replies (`is_silent`), and theorems go over all.
 #[derive(Clone, Copy)]
 pub enum Reply {
     None,

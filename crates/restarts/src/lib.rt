@@ -94,7 +94,8 @@ pub fn restart(state: u8, pool: Pool, m: &[u8]) -> Effect
     }
 }
 
-// What the host wants restarted: all pairs, or the one of a VPCI and a VCI.
+// What the host wants restarted: all pairs, or the one of a VPCI and a VCI. Stays beside `Named`: the host may give numbers that are no
+// pair's, and `may_restart` (refusal 13) tells them apart.
 #[derive(Clone, Copy)]
 pub enum Target {
     All,

@@ -20,6 +20,7 @@ use pairs::Pairs;
 pub const T316: u64 = 120000;
 
 // In Restart Request a RESTART of ours is under way: the pairs that it names, if T316 runs a second time, and T316's deadline.
+// Stays an enum: its states are the two that a STATUS shows, 0 and 61, by their names.
 #[derive(Clone, Copy)]
 pub enum GlobalState {
     Null,
