@@ -1,6 +1,7 @@
 // Calls: one call, its state with its timer, and one slot. Everything goes by value.
 //   LARGEST_READING               no later reading is accepted; milliseconds, as all times
 //   T303, T308, T310              how long each timer runs
+//   Reading                       a reading of the clock that is not refused
 //   Clearing, State, Call         a call, and the state that it is in; a state's timer is part of the state
 //   Hold, Slot                    an empty slot, or a live call with its state
 //   State::number, due            the paper's number of a state, and its timer's deadline
@@ -10,9 +11,9 @@
 // Nothing here has a `requires`. Assumes nothing.
 #![tactic(auto)]
 
-ghost use Rattle.std.specs.Prelude.{◌≡◌};
+ghost use Rattle.std.specs.Prelude.{◌≡◌, ◌≤◌};
 ghost use Rattle.calls.specs.Calls.{state_number, no_slot, live_slot, is_empty, is_live, is_call, holds_pair, entry_of, is_named, emptied};
-ghost use Rattle.calls.specs.Timers.{state_due, deadline_of, due_by};
+ghost use Rattle.calls.specs.Timers.{largest_reading, state_due, deadline_of, due_by};
 
 use channels::{Named, Pair};
 
@@ -23,6 +24,13 @@ pub const T303: u64 = 4000;
 pub const T308: u64 = 30000;
 
 pub const T310: u64 = 10000;
+
+// A reading of the clock that an event does not refuse: any timer can run from it.
+#[derive(Clone, Copy)]
+pub struct Reading {
+    pub time: u64,
+    ghost accepted: { time ≤ largest_reading },
+}
 
 // Clearing in N12: if T308 runs a second time, and the cause of the first RELEASE; expired: T310 ran out, and the
 // diagnostic is "310", otherwise there is none.

@@ -7,10 +7,9 @@
 #![tactic(auto)]
 
 ghost use Rattle.std.specs.Prelude.{◌≡◌, ◌≤◌};
-ghost use Rattle.calls.specs.Timers.{largest_reading};
 ghost use Rattle.commands.specs.Commands.{connected, cleared, offered_on};
 
-use calls::{Call, Hold, State, T303};
+use calls::{Call, Hold, Reading, State, T303};
 use channels::Pair;
 use effects::Effect;
 use replies::{Outgoing, Reply};
@@ -32,9 +31,8 @@ pub fn connect_call(i: usize, hold: Hold) -> Effect
 }
 
 // RELEASE is sent, and T308 of the slot's call runs.
-pub fn clear_call(reading: u64, i: usize, hold: Hold, cause: u8) -> Effect
-    requires { reading ≤ largest_reading }
-    ensures { result ≡ cleared reading i cause hold }
+pub fn clear_call(reading: Reading, i: usize, hold: Hold, cause: u8) -> Effect
+    ensures { result ≡ cleared reading.time i cause hold }
 {
     match hold {
         Hold::Empty => effects::quiet(),
@@ -49,9 +47,8 @@ pub fn clear_call(reading: u64, i: usize, hold: Hold, cause: u8) -> Effect
 }
 
 // SETUP is sent on a pair, and T303 runs.
-pub fn offer_call(reading: u64, i: usize, reference: u32, pair: Pair) -> Effect
-    requires { reading ≤ largest_reading }
-    ensures { result ≡ offered_on reading i reference pair.vpci pair.vci }
+pub fn offer_call(reading: Reading, i: usize, reference: u32, pair: Pair) -> Effect
+    ensures { result ≡ offered_on reading.time i reference pair.vpci pair.vci }
 {
     let call = Call {
         network: true,
@@ -61,7 +58,7 @@ pub fn offer_call(reading: u64, i: usize, reference: u32, pair: Pair) -> Effect
     effects::assign(
         i,
         call,
-        State::N6(reading + T303),
+        State::N6(reading.time + T303),
         false,
         Outgoing::Setup(pair),
     )

@@ -12,12 +12,12 @@
 #![tactic(auto)]
 
 ghost use Rattle.std.specs.Prelude.{◌≡◌, ◌≤◌, length};
-ghost use Rattle.calls.specs.Timers.{largest_reading};
 ghost use Rattle.octets.specs.Octets.{front};
 ghost use Rattle.header.specs.Header.{head_of};
 ghost use Rattle.outcome.specs.Outcome.{answer_of, started_of};
 ghost use Rattle.control.specs.Events.{start_of, heard_by, message_of, tick_of, connect_of, clear_of, offer_of, restart_of, put_back_of};
 
+use calls::Reading;
 use effects::Effect;
 use outcome::Answer;
 use pairs::Pairs;
@@ -48,9 +48,8 @@ pub fn start(ranges: &[u16], pairs: &[u16]) -> Result<Table, Refusal>
 }
 
 // What an accepted message does.
-fn hear(table: Table, reading: u64, m: &[u8]) -> Effect
-    requires { reading ≤ largest_reading }
-    ensures { result ≡ heard_by table reading m.now (head_of m.now) }
+fn hear(table: Table, reading: Reading, m: &[u8]) -> Effect
+    ensures { result ≡ heard_by table reading.time m.now (head_of m.now) }
 {
     match header::read(m) {
         None => effects::quiet(),
@@ -70,7 +69,7 @@ pub fn message(
         × (room.new ≡ front (message_of table label reading (length room.old) m.now).reply room.old) }
 {
     refusals::message_refusal(table.last, label, reading, room.len(), m)?;
-    let effect = hear(table, reading, m);
+    let effect = hear(table, Reading { time: reading }, m);
     Ok(outcome::accept(table, reading, effect, false, b"", room))
 }
 
@@ -80,7 +79,7 @@ pub fn tick(table: Table, label: u64, reading: u64, room: &mut [u8]) -> Result<A
         × (room.new ≡ front (tick_of table label reading (length room.old)).reply room.old) }
 {
     refusals::common_refusal(table.last, label, reading, room.len())?;
-    let fired = table.fire(reading);
+    let fired = table.fire(Reading { time: reading });
     Ok(outcome::accept(table, reading, fired.effect, fired.more, b"", room))
 }
 
@@ -115,7 +114,7 @@ pub fn clear(
 {
     let hold = table.slots.hold_at(slot);
     refusals::clear_refusal(table.last, label, reading, room.len(), hold, cause)?;
-    let effect = commands::clear_call(reading, slot as usize, hold, cause as u8);
+    let effect = commands::clear_call(Reading { time: reading }, slot as usize, hold, cause as u8);
     Ok(outcome::accept(table, reading, effect, false, b"", room))
 }
 
@@ -135,7 +134,7 @@ pub fn offer(
     let i = table.slots.lowest_empty().ok_or(Refusal::NoEmptySlot)?;
     let pair = table.free_pair().ok_or(Refusal::NoFreePair)?;
     let reference = table.slots.unused_reference();
-    let effect = commands::offer_call(reading, i, reference, pair);
+    let effect = commands::offer_call(Reading { time: reading }, i, reference, pair);
     Ok(outcome::accept(table, reading, effect, false, body, room))
 }
 
@@ -159,7 +158,7 @@ pub fn restart(
         table.pool,
         target,
     )?;
-    let effect = restarts::request(reading, restarts::named_by(target), false);
+    let effect = restarts::request(Reading { time: reading }, restarts::named_by(target), false);
     Ok(outcome::accept(table, reading, effect, false, b"", room))
 }
 

@@ -8,13 +8,12 @@
 #![tactic(auto)]
 
 ghost use Rattle.std.specs.Prelude.{◌≡◌, ◌≤◌};
-ghost use Rattle.calls.specs.Timers.{largest_reading};
 ghost use Rattle.judging.specs.Class.{classify};
 ghost use Rattle.judging.specs.Judge.{release_complete, release_reply, status_verdict, status_of, contents_verdict, judge, status_reply, no_call_reply, global_reply};
 ghost use Rattle.elements.specs.Values.{cause_in, call_state_in};
 ghost use Rattle.verdicts.specs.Verdict.{answered};
 
-use calls::{State, T310};
+use calls::{Reading, State, T310};
 use elements::Read;
 use header::{Header, MessageType};
 use replies::{Diagnostic, Reply};
@@ -99,12 +98,11 @@ fn stated(state: State, number: u8, diagnostic: Diagnostic) -> Verdict
 }
 
 // An expected message whose length field is right.
-fn judge_contents(kind: Kind, m: &[u8], state: State, reading: u64) -> Verdict
-    requires { reading ≤ largest_reading }
-    ensures { result ≡ contents_verdict kind m.now state reading }
+fn judge_contents(kind: Kind, m: &[u8], state: State, reading: Reading) -> Verdict
+    ensures { result ≡ contents_verdict kind m.now state reading.time }
 {
     match kind {
-        Kind::CallProceeding => moved(State::N9(reading + T310), Reply::None, None),
+        Kind::CallProceeding => moved(State::N9(reading.time + T310), Reply::None, None),
         Kind::Connect => moved(
             State::N10,
             Reply::ConnectAcknowledge,
@@ -119,9 +117,8 @@ fn judge_contents(kind: Kind, m: &[u8], state: State, reading: u64) -> Verdict
 }
 
 // A message on a live call.
-pub fn judge(m: &[u8], head: Header, state: State, reading: u64) -> Verdict
-    requires { reading ≤ largest_reading }
-    ensures { result ≡ judge m.now head state reading }
+pub fn judge(m: &[u8], head: Header, state: State, reading: Reading) -> Verdict
+    ensures { result ≡ judge m.now head state reading.time }
 {
     match class_of(head.kind, state) {
         Class::Ignored => answered(Reply::None),

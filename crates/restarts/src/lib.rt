@@ -10,11 +10,11 @@
 
 ghost use Rattle.std.specs.Prelude.{◌≡◌, ◌||◌, ◌≤◌, ltb};
 ghost use Rattle.channels.specs.Channels.{permanent};
-ghost use Rattle.calls.specs.Timers.{largest_reading};
 ghost use Rattle.elements.specs.Values.{connection_in, restart_in, pair_read};
 ghost use Rattle.restarts.specs.User.{restart_status, restarting, pair_restart, restart_effect};
 ghost use Rattle.restarts.specs.Own.{Fits, named_by, restart_of, requested, ending, is_class, is_connection, is_same, acknowledge_effect, expire_second, expire_effect, put_back};
 
+use calls::Reading;
 use channels::{Named, Pair, Pool};
 use effects::{Change, Effect, Ending, quiet, replying};
 use elements::Read;
@@ -127,12 +127,11 @@ fn restart_of(named: Named) -> Reply
 }
 
 // Our RESTART of these pairs is sent, and T316 runs: the first, or the second.
-pub fn request(reading: u64, named: Named, second: bool) -> Effect
-    requires { reading ≤ largest_reading }
-    ensures { result ≡ requested reading named second }
+pub fn request(reading: Reading, named: Named, second: bool) -> Effect
+    ensures { result ≡ requested reading.time named second }
 {
     Effect {
-        change: Change::Request(named, second, reading + T316),
+        change: Change::Request(named, second, reading.time + T316),
         flag: false,
         reference: 0,
         outgoing: Outgoing::Reply(restart_of(named)),
@@ -191,9 +190,8 @@ pub fn acknowledge(state: GlobalState, m: &[u8]) -> Effect
 }
 
 // T316 runs out a second time: our RESTART ends and its pairs are out of service, where there is room to mark them.
-fn expire_second(named: Named, out: OutOfService, reading: u64) -> Effect
-    requires { reading ≤ largest_reading }
-    ensures { result ≡ expire_second named out reading }
+fn expire_second(named: Named, out: OutOfService, reading: Reading) -> Effect
+    ensures { result ≡ expire_second named out reading.time }
 {
     if out.has_room(named) {
         return end(named, Ending::Expired);
@@ -202,9 +200,8 @@ fn expire_second(named: Named, out: OutOfService, reading: u64) -> Effect
 }
 
 // T316 runs out: our RESTART is sent again, or it ends.
-pub fn expire(state: GlobalState, out: OutOfService, reading: u64) -> Effect
-    requires { reading ≤ largest_reading }
-    ensures { result ≡ expire_effect state out reading }
+pub fn expire(state: GlobalState, out: OutOfService, reading: Reading) -> Effect
+    ensures { result ≡ expire_effect state out reading.time }
 {
     match state {
         GlobalState::Null => quiet(),

@@ -1,14 +1,13 @@
 // The rules that the table of a saved form keeps: a form whose table breaks one is refused.
 //   is_kept      each call: its reference, pair, state, timer, side and cause, and that no other call has its pair or reference;
 //                the pairs in doubt and those out of service; our RESTART
-// `is_kept` asks for a last reading that is not refused. Assumes nothing.
+// Nothing has a `requires`. Assumes nothing.
 #![tactic(auto)]
 
 ghost use Rattle.std.specs.Prelude.{◌≡◌, ◌≤◌};
 ghost use Rattle.std.specs.List.{list_any};
 ghost use Rattle.pairs.specs.Pairs.{listed, ascending};
 ghost use Rattle.calls.specs.Calls.{is_call, holds_pair};
-ghost use Rattle.calls.specs.Timers.{largest_reading};
 ghost use Rattle.first.specs.First.{place};
 ghost use Rattle.slots.specs.Slots.{slot_count};
 ghost use Rattle.provisioning.specs.Provisioning.{all_below};
@@ -34,16 +33,15 @@ fn is_cause_kept(network: bool, clearing: Clearing) -> bool
 
 // A state with its timer, side and cause.
 fn is_state_kept(last: u64, network: bool, state: State) -> bool
-    requires { last ≤ largest_reading }
     ensures { result ≡ state_kept last network state }
 {
     match state {
         State::N3 => !network,
-        State::N6(deadline) => network && deadline <= last + T303,
-        State::N9(deadline) => network && deadline <= last + T310,
+        State::N6(deadline) => network && deadline.saturating_sub(T303) <= last,
+        State::N9(deadline) => network && deadline.saturating_sub(T310) <= last,
         State::N10 => true,
         State::N12(clearing, deadline) => {
-            deadline <= last + T308 && is_cause_kept(network, clearing)
+            deadline.saturating_sub(T308) <= last && is_cause_kept(network, clearing)
         }
     }
 }
@@ -73,7 +71,6 @@ fn is_first_with(slots: Slots, slot: usize, network: bool, reference: u32) -> bo
 
 // A call of a slot: its reference, that no slot before has its pair or its reference, its pair, its state.
 fn is_call_kept(table: Table, slot: usize, call: Call, state: State) -> bool
-    requires { table.last ≤ largest_reading }
     ensures { result ≡ call_kept table slot call state }
 {
     call.reference != 0
@@ -84,7 +81,6 @@ fn is_call_kept(table: Table, slot: usize, call: Call, state: State) -> bool
 }
 
 fn is_slot_kept(table: Table, slot: usize) -> bool
-    requires { table.last ≤ largest_reading }
     ensures { result ≡ slot_kept table slot }
 {
     match table.slots.hold_at(slot as u64) {
@@ -95,7 +91,6 @@ fn is_slot_kept(table: Table, slot: usize) -> bool
 
 // Every slot keeps them.
 fn are_slots_kept(table: Table) -> bool
-    requires { table.last ≤ largest_reading }
     ensures { result ≡ all_below (slot_kept table) slot_count }
 {
     for i in 0..SLOTS {
@@ -179,20 +174,18 @@ fn is_named_kept(pool: Pool, named: Named) -> bool
 
 // Our RESTART, with its timer.
 fn is_wait_kept(last: u64, pool: Pool, state: GlobalState) -> bool
-    requires { last ≤ largest_reading }
     ensures { result ≡ wait_kept last pool state }
 {
     match state {
         GlobalState::Null => true,
         GlobalState::RestartRequest(named, _, deadline) => {
-            deadline <= last + T316 && is_named_kept(pool, named)
+            deadline.saturating_sub(T316) <= last && is_named_kept(pool, named)
         }
     }
 }
 
 // The table keeps every rule.
 pub fn is_kept(table: Table) -> bool
-    requires { table.last ≤ largest_reading }
     ensures { result ≡ table_kept slot_count table }
 {
     are_pairs_kept(table, table.out.pairs, table.doubts)

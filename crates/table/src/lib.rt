@@ -10,7 +10,6 @@
 
 ghost use Rattle.std.specs.Prelude.{◌≡◌, true, ◌&&◌, not, ◌≤◌, eqb};
 ghost use Rattle.calls.specs.Calls.{is_empty};
-ghost use Rattle.calls.specs.Timers.{largest_reading};
 ghost use Rattle.first.specs.First.{place};
 ghost use Rattle.setup.specs.Setup.{admission};
 ghost use Rattle.slots.specs.Timers.{some_due};
@@ -21,7 +20,7 @@ ghost use Rattle.effects.specs.Effect.{replying};
 ghost use Rattle.restarts.specs.Own.{expire_effect};
 ghost use Rattle.table.specs.Effects.{read_at, with_slot, with_doubt, restarted, requesting, putting_back, table_after, free_pair, on_pair, admitted, setup_effect, on_no_call, on_hold, global_effect, message_effect, fire_hold, request_first, fired_slot, fired_request, tick_effect, due_after};
 
-use calls::{Call, Hold, Slot, State, is_due};
+use calls::{Call, Hold, Reading, Slot, State, is_due};
 use channels::{Named, Pair, Pool};
 use effects::{Change, Effect, Ending, assign, on_call, quiet, replying};
 use header::{Header, MessageType};
@@ -88,9 +87,8 @@ fn set_up_on(reference: u32, i: usize, free: Option<Pair>) -> Effect
 }
 
 // A message on the call of a slot.
-fn on_slot(m: &[u8], head: Header, reading: u64, i: usize, slot: Slot) -> Effect
-    requires { reading ≤ largest_reading }
-    ensures { result ≡ on_hold m.now head reading i slot.hold }
+fn on_slot(m: &[u8], head: Header, reading: Reading, i: usize, slot: Slot) -> Effect
+    ensures { result ≡ on_hold m.now head reading.time i slot.hold }
 {
     match slot.hold {
         Hold::Empty => quiet(),
@@ -105,9 +103,8 @@ fn on_slot(m: &[u8], head: Header, reading: u64, i: usize, slot: Slot) -> Effect
 }
 
 // The timer of a slot's call fires; `full`: there is no room for a doubt.
-fn fire_slot(full: bool, reading: u64, i: usize, hold: Hold) -> Effect
-    requires { reading ≤ largest_reading }
-    ensures { result ≡ fire_hold full reading i hold }
+fn fire_slot(full: bool, reading: Reading, i: usize, hold: Hold) -> Effect
+    ensures { result ≡ fire_hold full reading.time i hold }
 {
     match hold {
         Hold::Empty => quiet(),
@@ -321,9 +318,8 @@ impl Table {
     }
 
     // A message that passed the header checks.
-    pub fn heard(self, m: &[u8], head: Header, reading: u64) -> Effect
-        requires { reading ≤ largest_reading }
-        ensures { result ≡ message_effect self m.now head reading }
+    pub fn heard(self, m: &[u8], head: Header, reading: Reading) -> Effect
+        ensures { result ≡ message_effect self m.now head reading.time }
     {
         if head.reference == 0 {
             return self.on_global(m, head);
@@ -335,9 +331,8 @@ impl Table {
     }
 
     // The timer of a slot, which is the soonest; T316 may be due too.
-    fn fire_soonest(self, reading: u64, soonest: Option<Timer>) -> Fired
-        requires { reading ≤ largest_reading }
-        ensures { result ≡ fired_slot self reading soonest }
+    fn fire_soonest(self, reading: Reading, soonest: Option<Timer>) -> Fired
+        ensures { result ≡ fired_slot self reading.time soonest }
     {
         match soonest {
             None => Fired {
@@ -349,32 +344,30 @@ impl Table {
                 let hold = self.slots.hold_at(i as u64);
                 Fired {
                     effect: fire_slot(self.doubts.is_full(), reading, i, hold),
-                    more: timer.another || is_due(self.global.state.due(), reading),
+                    more: timer.another || is_due(self.global.state.due(), reading.time),
                 }
             }
         }
     }
 
     // T316.
-    fn fire_request(self, reading: u64) -> Fired
-        requires { reading ≤ largest_reading }
-        ensures { result ≡ fired_request self reading }
+    fn fire_request(self, reading: Reading) -> Fired
+        ensures { result ≡ fired_request self reading.time }
     {
         let effect = restarts::expire(self.global.state, self.out, reading);
         let left = slots_after(self.slots, effect.change);
         Fired {
             effect,
-            more: left.is_some_due(reading),
+            more: left.is_some_due(reading.time),
         }
     }
 
     // The timer that a tick fires, if one is due.
-    pub fn fire(self, reading: u64) -> Fired
-        requires { reading ≤ largest_reading }
-        ensures { (result.effect ≡ tick_effect self reading) × (result.more ≡ due_after self reading (tick_effect self reading).change) }
+    pub fn fire(self, reading: Reading) -> Fired
+        ensures { (result.effect ≡ tick_effect self reading.time) × (result.more ≡ due_after self reading.time (tick_effect self reading.time).change) }
     {
-        let soonest = self.slots.soonest(reading);
-        if is_first(soonest, self.global.state.due(), reading) {
+        let soonest = self.slots.soonest(reading.time);
+        if is_first(soonest, self.global.state.due(), reading.time) {
             return self.fire_request(reading);
         }
         self.fire_soonest(reading, soonest)

@@ -8,11 +8,10 @@
 #![tactic(auto)]
 
 ghost use Rattle.std.specs.Prelude.{◌≡◌, ◌≤◌};
-ghost use Rattle.calls.specs.Timers.{largest_reading};
 ghost use Rattle.verdicts.specs.Verdict.{notice_number, because, plain_cause, answered, moved, ended, lost};
 ghost use Rattle.verdicts.specs.Expiry.{diagnosed, released, waiting, expire_clearing, expire};
 
-use calls::{Clearing, State, T308};
+use calls::{Clearing, Reading, State, T308};
 use replies::{Cause, Diagnostic, Reply};
 
 // What the host is told of a call: it is asked, it is answered, it is gone.
@@ -116,9 +115,8 @@ fn diagnosed(expired: bool) -> Diagnostic
 }
 
 // RELEASE is sent, and T308 runs.
-pub fn release(reading: u64, second: bool, cause: u8, expired: bool) -> Verdict
-    requires { reading ≤ largest_reading }
-    ensures { result ≡ released reading second cause expired }
+pub fn release(reading: Reading, second: bool, cause: u8, expired: bool) -> Verdict
+    ensures { result ≡ released reading.time second cause expired }
 {
     let clearing = Clearing {
         second,
@@ -127,27 +125,25 @@ pub fn release(reading: u64, second: bool, cause: u8, expired: bool) -> Verdict
     };
     let diagnostic = diagnosed(expired);
     moved(
-        State::N12(clearing, reading + T308),
+        State::N12(clearing, reading.time + T308),
         Reply::Release(because(cause, diagnostic)),
         None,
     )
 }
 
 // With no room for a doubt, the call waits: T308 starts again, and nothing is sent.
-fn wait(reading: u64, clearing: Clearing) -> Verdict
-    requires { reading ≤ largest_reading }
-    ensures { result ≡ waiting reading clearing }
+fn wait(reading: Reading, clearing: Clearing) -> Verdict
+    ensures { result ≡ waiting reading.time clearing }
 {
     let again = Clearing {
         second: true,
         ..clearing
     };
-    moved(State::N12(again, reading + T308), Reply::None, None)
+    moved(State::N12(again, reading.time + T308), Reply::None, None)
 }
 
-fn expire_clearing(clearing: Clearing, reading: u64, full: bool) -> Verdict
-    requires { reading ≤ largest_reading }
-    ensures { result ≡ expire_clearing full clearing reading }
+fn expire_clearing(clearing: Clearing, reading: Reading, full: bool) -> Verdict
+    ensures { result ≡ expire_clearing full clearing reading.time }
 {
     if !clearing.second {
         return release(reading, true, clearing.cause, clearing.expired);
@@ -160,9 +156,8 @@ fn expire_clearing(clearing: Clearing, reading: u64, full: bool) -> Verdict
 }
 
 // The timer of a call in this state fires; `full`: there is no room for a doubt.
-pub fn expire(state: State, reading: u64, full: bool) -> Verdict
-    requires { reading ≤ largest_reading }
-    ensures { result ≡ expire full state reading }
+pub fn expire(state: State, reading: Reading, full: bool) -> Verdict
+    ensures { result ≡ expire full state reading.time }
 {
     match state {
         State::N3 | State::N10 => answered(Reply::None),
