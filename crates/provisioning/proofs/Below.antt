@@ -1,22 +1,17 @@
 -- Laws of `all_below`, for the loops that test one number after the other.
---   below_more     one more that passes
 --   not_below      one that does not
 --   below_at       each passes
 -- Assumes nothing.
-use Prim.Native.Nat.{ℕ, zero, suc, ◌+◌, ◌<◌}
+use Prim.Native.Nat.{ℕ, zero, suc, ◌<◌}
 use mathlib.Core.Path.{◌≡◌}
 use mathlib.Core.Bool.{Bool, true, false, and-false}
 use native.Mathlib.Omega.{arith}
-use native.Mathlib.Numerals.{add-one}
 use lib.Dec.{eqb}
 use borrow.Author.Tests.{eqb-true, eqb-false}
 use Rattle.channels.proofs.Cases.{by_test, clash}
 use Rattle.provisioning.specs.Provisioning.{all_below}
 
 module _ (p : ℕ → Bool) where
-  pub below_more : (k : ℕ) → all_below p k ≡ true → p k ≡ true → all_below p (k + 1) ≡ true
-  below_more k e h = rw (add-one k, e, h)
-
   pub not_below : (n k : ℕ) → k < n → p k ≡ false → all_below p n ≡ false
   not_below zero k h e = absurd (omega arith)
   not_below (suc n) k h e =

@@ -1,5 +1,5 @@
 -- Laws for the loops of the reader.
---   Listed, listed_more, listed_list    numbers read into an array
+--   Listed, listed_list    numbers read into an array
 --   Walked, walked_more, walked_all     slots read into an array, their fields one behind the other
 --   fours_more, four_next               numbers of four octets read into an array
 --   least_min                           the smaller of two numbers
@@ -7,15 +7,11 @@
 use Rattle.std.proofs.lemmas.Bool.Decides.{nat_tests}
 use Prim.Native.Nat.{ℕ, min, zero, suc, ◌+◌, ◌*◌, ◌-◌, ◌/◌, ◌≤◌, ◌<◌}
 use mathlib.Core.Path.{◌≡◌, refl, sym, ap, ◌∙◌}
-use mathlib.Core.Logic.{◌≢◌}
 use mathlib.Core.List.{List, [], ◌∷◌, ◌++◌, append_assoc, append-nil}
 use native.Mathlib.Omega.{arith}
 use native.Mathlib.Numerals.{add-one}
-use lib.Dec.{eqb}
 use lib.ListN.{length, get_or, set, take, drop}
-use lib.Seq.{get_or-drop, get_or-set_same, get_or-set_other, take-suc-set, take_all}
-use borrow.Author.Tests.{eqb-true, eqb-false}
-use Rattle.channels.proofs.Cases.{by_test}
+use lib.Seq.{get_or-drop, take-suc-set, take_all}
 use Rattle.calls.specs.declared.Slot.{Slot}
 use Rattle.reading.specs.Reading.{two_at, four_at, numbers_in, least, list_in, fours_in, slot_in, behind_slot, slots_in}
 
@@ -50,14 +46,6 @@ listed_all f numbers k n l h size =
 pub listed_list : (most room : ℕ) (f numbers : List ℕ) (k n : ℕ) → Listed f numbers k → room ≤ k → length numbers ≡ room → n ≤ room → n ≡ least most (two_at f 1 / 2)
     → take n numbers ≡ list_in most f
 listed_list most room f numbers k n l h size few e = listed_all f numbers k n l (omega arith) (omega arith) ∙ ap (numbers_in (drop 3 f)) e
-
-pub listed_more : (f numbers : List ℕ) (k v : ℕ) → k < length numbers → v ≡ two_at f (3 + k * 2) → Listed f numbers k → Listed f (set numbers k v) (k + 1)
-listed_more f numbers k v h e l = record {
-  each = λ j less.
-      by_test (eqb j k)
-      (λ y. let same : j ≡ k = eqb-true j k y in rw same (get_or-set_same numbers k v 0 h ∙ e))
-      (λ n. let other : j ≢ k = eqb-false j k n in get_or-set_other numbers k j v 0 other ∙ l.each j (omega (arith, other)));
-}
 
 -- the first i slots are read, and the field of the next, if it has one, is at this place
 pub record Walked (f : List ℕ) (at n : ℕ) (all : List Slot) (next i : ℕ) : Type 0 where

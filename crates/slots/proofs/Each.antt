@@ -1,18 +1,16 @@
 -- Laws for a loop that fills an array with a function of each element of another: the first i are made, the rest is as it was.
 --   mapped          the array at that point
 --   mapped_more     one more
---   mapped_all      all
 -- And of flags made so:
 --   some_set        a flag is set if and only if some element passes
 -- Assumes nothing.
-use Prim.Native.Nat.{ℕ, zero, suc, ◌+◌, ◌≤◌, ◌<◌}
+use Prim.Native.Nat.{ℕ, zero, suc, ◌+◌, ◌<◌}
 use mathlib.Core.Path.{◌≡◌, refl, ap, ◌∙◌}
 use mathlib.Core.Bool.{Bool, ◌||◌}
-use mathlib.Core.List.{List, [], ◌∷◌, ◌++◌, map, append-nil}
+use mathlib.Core.List.{List, [], ◌∷◌, ◌++◌, map}
 use native.Mathlib.Omega.{arith}
 use native.Mathlib.Numerals.{add-one}
-use lib.ListN.{length, take, drop, get_or, set, drop_of_length-le}
-use lib.Seq.{take_all}
+use lib.ListN.{length, take, drop, get_or, set}
 use Rattle.std.specs.List.{list_any}
 use Rattle.slots.specs.Slots.{is_set}
 
@@ -30,9 +28,6 @@ module _ {A B : Type 0} (f : A → B) where
   pub mapped_more : (xs : List A) (ys : List B) (i : ℕ) (d : A) → i < length xs → i < length ys
       → set (mapped xs ys i) i (f (get_or xs i d)) ≡ mapped xs ys (i + 1)
   mapped_more xs ys i d h k = mapped_suc xs ys i d h k ∙ rw (add-one i)
-
-  pub mapped_all : (xs : List A) (ys : List B) (i : ℕ) → length xs ≤ i → length ys ≤ i → mapped xs ys i ≡ map f xs
-  mapped_all xs ys i h k = rw (take_all i xs h, drop_of_length-le ys {i = i} k) (append-nil (map f xs))
 
 pub some_set : {A : Type 0} (p : A → Bool) (xs : List A) → list_any is_set (map p xs) ≡ list_any p xs
 some_set p [] = refl

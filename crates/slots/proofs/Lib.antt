@@ -1,4 +1,3 @@
 pub mod Each
 pub mod Unused
 pub mod Timers
-pub mod Spots

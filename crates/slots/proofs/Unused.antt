@@ -1,5 +1,5 @@
 -- Laws of the lowest reference that is not in use.
---   unused_here, unused_not_here, unused_end     for the loop: r is not in use, it is, and the references up to `end` are passed
+--   unused_not_here          for the loop: r is in use
 --   unused_found             what is found: it is the lowest, and not in use if it is one of those tried
 --   unused_is_unused         the reference that is found is not in use: fewer slots than references cannot have them all
 --   unused_is_lowest         every reference from 1 below it is in use
@@ -20,20 +20,10 @@ use Rattle.calls.proofs.Calls.{call_named_once}
 use Rattle.slots.specs.Slots.{in_use, unused_from, unused_reference}
 
 module _ (end r : ℕ) (ss : List Slot) where
-  pub unused_here : r < end → in_use r ss ≡ false → unused_from r (end - r) ss ≡ r
-  unused_here h e =
-      let n : end - r ≡ suc (end - (r + 1)) = omega arith in
-      rw (n, e)
-
   pub unused_not_here : r < end → in_use r ss ≡ true → unused_from r (end - r) ss ≡ unused_from (r + 1) (end - (r + 1)) ss
   unused_not_here h e =
       let n : end - r ≡ suc (end - (r + 1)) = omega arith in
       rw (n, e)
-
-  pub unused_end : end ≤ r → unused_from r (end - r) ss ≡ r
-  unused_end h =
-      let n : end - r ≡ 0 = omega arith in
-      rw n
 
 -- the list without the first that passes
 abbrev without : {A : Type 0} → (A → Bool) → List A → List A

@@ -1,4 +1,4 @@
-use Rattle.std.proofs.Common.{◌<◌, ◌*◌, ◌≡◌, length, sym, ◌∙◌, arith, rules, Fits, w64}
+use Rattle.std.proofs.Common.{◌≡◌, length, sym, ◌∙◌, arith, rules}
 use Rattle.calls.specs.Calls.{no_slot, is_call}
 use Rattle.first.proofs.First.{placed}
 use Rattle.slots.proofs.Slots.find.Goals as goal
