@@ -45,9 +45,12 @@ fn fetch(source: &mut impl Read, input: &mut [u8], at: usize) -> usize
 
 // The place behind the last line end between two places, or 0 if there is none.
 fn behind_lines(input: &[u8; 131072], from: usize, end: usize) -> usize
-    requires { (from ≤ end) × (end ≤ 131072) }
+    requires { end ≤ 131072 }
     ensures { result ≤ end }
 {
+    if end < from {
+        return 0;
+    }
     match input[from..end].iter().rposition(|octet| *octet == b'\n') {
         Some(last) => from + last + 1,
         None => 0,

@@ -21,7 +21,9 @@ pub(crate) struct Page {
 }
 
 impl Page {
-    pub(crate) fn new(explains: bool) -> Page {
+    pub(crate) fn new(explains: bool) -> Page
+        ensures { result.used ≡ 0 }
+    {
         Page {
             octets: [0u8; 65536],
             used: 0,
