@@ -13,8 +13,9 @@ use mathlib.Core.List.{List, [], ◌∷◌}
 use native.Mathlib.Omega.{arith}
 use lib.Dec.{eqb, leb}
 use borrow.Author.Tests.{eqb-true, eqb-false, leb-true, eq-eqb, le-leb}
-use Rattle.channels.specs.Channels.{pair, scan, lowest, in_range, in_ranges}
-use Rattle.channels.specs.declared.Pair.{Pair}
+use Rattle.identifier.specs.Pair.{pair}
+use Rattle.channels.specs.Channels.{scan, lowest, in_range, in_ranges}
+use Rattle.identifier.specs.declared.Pair.{Pair}
 use Rattle.channels.specs.declared.Range.{Range}
 use Rattle.channels.proofs.Cases.{by_test, clash}
 use Rattle.channels.proofs.Parts.{pair_parts}

@@ -19,10 +19,10 @@ use mathlib.Core.Bool.{true, false, ◌&&◌, ◌||◌, or-true}
 use native.Mathlib.Omega.{arith}
 use lib.Dec.{eqb, ltb}
 use borrow.Author.Tests.{ltb-true, ltb-false, eqb-true, eqb-false, lt-ltb, eq-eqb}
-use Rattle.channels.specs.Channels.{pair, is_pair}
+use Rattle.identifier.specs.Pair.{pair, is_pair}
 use Rattle.std.specs.Option.{is_none}
 use Rattle.channels.specs.Order.{channel_before}
-use Rattle.channels.specs.declared.Pair.{Pair}
+use Rattle.identifier.specs.declared.Pair.{Pair}
 use Rattle.channels.proofs.Cases.{by_test, clash, both}
 
 abbrev pub Lower : ℕ → ℕ → ℕ → ℕ → Type 0

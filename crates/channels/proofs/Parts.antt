@@ -4,8 +4,8 @@
 use Prim.Native.Nat.{ℕ}
 use mathlib.Core.Path.{◌≡◌, ap}
 use Rattle.std.specs.Prelude.{Option, Some, None}
-use Rattle.channels.specs.Channels.{pair}
-use Rattle.channels.specs.declared.Pair.{Pair}
+use Rattle.identifier.specs.Pair.{pair}
+use Rattle.identifier.specs.declared.Pair.{Pair}
 
 abbrev vpci_of : Option Pair → ℕ
 vpci_of None = 0

@@ -1,6 +1,6 @@
 -- Channels: what is permitted, and the lowest free pair.
 --   range_count, permanent_count  how many ranges and permanent pairs there can be
---   pair, is_pair, among          a pair of a VPCI and a VCI; if a place, or some place of a list, holds the pair of VPCI p and VCI v
+--   among                         if some place of a list holds the pair of VPCI p and VCI v
 --   in_range, in_ranges           if a range, or some range of a list, has the pair
 --   permanent, permitted        of a pool
 --   scan, lowest                the lowest pair of a list of ranges that a test does not name as taken
@@ -9,7 +9,8 @@
 -- Lists are of any length, and `lowest` is over any test. Assumes nothing.
 use Rattle.std.specs.Prelude.{ℕ, zero, suc, ◌+◌, ◌-◌, Bool, false, cond, not, ◌&&◌, ◌||◌, List, [], ◌∷◌, eqb, leb, replicate, Option, Some, None}
 use Rattle.std.specs.List.{list_any}
-use Rattle.channels.specs.declared.Pair.{Pair}
+use Rattle.identifier.specs.Pair.{pair, is_pair}
+use Rattle.identifier.specs.declared.Pair.{Pair}
 use Rattle.channels.specs.declared.Range.{Range}
 use Rattle.channels.specs.declared.Pool.{Pool}
 
@@ -19,14 +20,6 @@ range_count = 4
 
 abbrev pub permanent_count : ℕ
 permanent_count = 8
-
--- a pair is a VPCI and a VCI
-abbrev pub pair : ℕ → ℕ → Pair
-pair p v = record { vpci = p; vci = v }
-
-abbrev pub is_pair : ℕ → ℕ → Option Pair → Bool
-is_pair p v None = false
-is_pair p v (Some qw) = eqb qw.vpci p && eqb qw.vci v
 
 abbrev pub among : ℕ → ℕ → List (Option Pair) → Bool
 among p v es = list_any (is_pair p v) es

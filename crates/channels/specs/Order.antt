@@ -2,7 +2,7 @@
 --   channel_before             if a pair comes before another: no pair comes behind every pair
 -- Assumes nothing.
 use Rattle.std.specs.Prelude.{Bool, true, false, ◌&&◌, ◌||◌, eqb, ltb, Option, Some, None}
-use Rattle.channels.specs.declared.Pair.{Pair}
+use Rattle.identifier.specs.declared.Pair.{Pair}
 
 abbrev pub channel_before : Option Pair → Option Pair → Bool
 channel_before None d = false

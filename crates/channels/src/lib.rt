@@ -1,6 +1,6 @@
-// Channels: permitted ranges, permanent pairs, and a pair.
+// Channels: permitted ranges, and permanent pairs.
 //   RANGES, PERMANENTS        how many ranges and permanent pairs there can be
-//   Pair, Range               a VPCI and a VCI; one permitted range
+//   Pair, Range               a VPCI and a VCI, which is crate identifier's; one permitted range
 //   Pool, Named               what start permits; the pairs that a RESTART names
 //   is_before                 the order of pairs by VPCI and then VCI, where no pair comes behind every pair
 //   Range::unused             the range without a VCI
@@ -13,18 +13,13 @@
 
 ghost use Rattle.std.specs.Prelude.{◌≡◌};
 ghost use Rattle.channels.specs.Order.{channel_before};
-ghost use Rattle.channels.specs.Channels.{is_pair, names_vpci, among, in_range, in_ranges, permitted, spans_vpci, spanned_vpci, named_vpci, known_vpci, no_range, empty_pool};
+ghost use Rattle.channels.specs.Channels.{names_vpci, among, in_range, in_ranges, permitted, spans_vpci, spanned_vpci, named_vpci, known_vpci, no_range, empty_pool};
+
+pub use identifier::Pair;
 
 pub const RANGES: usize = 4;
 
 pub const PERMANENTS: usize = 8;
-
-// A channel's name: pairs are ordered by VPCI and then VCI.
-#[derive(Clone, Copy, PartialEq, Eq, PartialOrd, Ord)]
-pub struct Pair {
-    pub vpci: u16,
-    pub vci: u16,
-}
 
 // The pairs of one VPCI from a first VCI to a last one. An unused range has first above last: (0, 1, 0).
 #[derive(Clone, Copy)]
@@ -46,15 +41,6 @@ pub struct Pool {
 pub enum Named {
     All,
     One(Pair),
-}
-
-impl Pair {
-    // If a list's place holds this pair.
-    pub fn is(self, place: Option<Pair>) -> bool
-        ensures { result ≡ is_pair self.vpci self.vci place }
-    {
-        place == Some(self)
-    }
 }
 
 // If a place names a pair of this VPCI.

@@ -2,7 +2,7 @@
 --   connected, cleared
 --   network_call, offered_on     the call of an offer, and its SETUP on a pair
 -- The refusals are in crate refusals, the events in control. Assumes nothing.
-use Rattle.channels.specs.Channels.{pair}
+use Rattle.identifier.specs.Pair.{pair}
 use Rattle.std.specs.Prelude.{ℕ, ◌+◌, true, false, not, None}
 use Rattle.calls.specs.declared.State.TheVariants.{N6, N10}
 use Rattle.calls.specs.declared.Call.{Call}

@@ -7,7 +7,7 @@
 -- A value is that of readable contents; an octet that is not there counts as 0. Assumes nothing.
 use Rattle.std.specs.Prelude.{ℕ, ◌%◌, Bool, ◌&&◌, ◌||◌, List, eqb, leb, length, get_or}
 use Rattle.octets.specs.Octets.{number, top_bit}
-use Rattle.channels.specs.declared.Pair.{Pair}
+use Rattle.identifier.specs.declared.Pair.{Pair}
 
 -- "08 Cause: at least 2; top bit set in each of the first two."
 abbrev pub cause_fits : List ℕ → Bool

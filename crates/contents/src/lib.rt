@@ -12,7 +12,7 @@ ghost use Rattle.std.specs.Prelude.{◌≡◌};
 ghost use Rattle.contents.specs.Contents.{cause_fits, cause_number, call_state_fits, call_state_value, connection_fits, connection_in, restart_fits, restart_class};
 ghost use Rattle.contents.specs.Fits.{fits};
 
-use channels::Pair;
+use identifier::Pair;
 use octets::octet_at;
 
 // 08 Cause.

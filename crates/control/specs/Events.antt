@@ -6,7 +6,7 @@
 -- do in commands. Assumes nothing.
 use Rattle.header.specs.declared.Header.{Header}
 use Rattle.std.specs.Prelude.{ℕ, cond, false, List, [], Option, Some, None}
-use Rattle.channels.specs.declared.Pair.{Pair}
+use Rattle.identifier.specs.declared.Pair.{Pair}
 use Rattle.provisioning.specs.Provisioning.{provision}
 use Rattle.calls.specs.Calls.{is_empty}
 use Rattle.first.specs.First.{place}
@@ -19,7 +19,8 @@ use Rattle.restarts.specs.Own.{named_by, requested, put_back}
 use Rattle.table.specs.declared.Table.{Table}
 use Rattle.table.specs.Effects.{free_pair, message_effect, tick_effect, due_after}
 use Rattle.refusals.specs.Refusals.{message_refusal, common_refusal, connect_refusal, clear_refusal, offer_refusal, restart_refusal}
-use Rattle.outcome.specs.Outcome.{Outcome, sending, accepted_as, unless_refused, Started, fresh_table}
+use Rattle.outcome.specs.Outcome.{Outcome, sending, accepted_as, unless_refused, fresh_table}
+use Rattle.outcome.specs.declared.Started.{Started}
 use Rattle.commands.specs.Commands.{connected, cleared, offered_on}
 
 -- "start takes permitted ranges .. and permanent pairs"; "the last accepted reading, 0 at start"; "A refused start gives no table to use."

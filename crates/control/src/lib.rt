@@ -20,11 +20,8 @@ ghost use Rattle.control.specs.Events.{start_of, heard_by, message_of, tick_of, 
 use calls::Reading;
 use effects::Effect;
 use outcome::Answer;
-use pairs::Pairs;
 use refusal::Refusal;
 use restarts::Target;
-use service::{Global, GlobalState, OutOfService};
-use slots::Slots;
 use table::Table;
 
 // Starts with permitted ranges, three numbers for each, and permanent pairs, two for each.
@@ -32,19 +29,7 @@ pub fn start(ranges: &[u16], pairs: &[u16]) -> Result<Table, Refusal>
     ensures { started_of result ≡ start_of ranges.now pairs.now }
 {
     let pool = provisioning::pool_of(ranges, pairs).ok_or(Refusal::BrokenRule)?;
-    let slots = Slots::fresh();
-    let doubts = Pairs::none();
-    let state = GlobalState::Null;
-    let global = Global { state };
-    let out = OutOfService::none();
-    Ok(Table {
-        slots,
-        last: 0,
-        doubts,
-        global,
-        out,
-        pool,
-    })
+    Ok(outcome::fresh(pool))
 }
 
 // What an accepted message does.

@@ -5,8 +5,8 @@
 // Assumes nothing.
 ghost use Rattle.elements.specs.Elements.{IfReadable};
 
-use channels::Pair;
 use elements::{Configuration, Part, Read};
+use identifier::Pair;
 use std::io::Result;
 use traffic::{has_subfield, traffic_allowed};
 

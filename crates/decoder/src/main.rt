@@ -3,12 +3,13 @@
 //   found       prints what is found of each element
 // All that is printed of a message, but for which step ignores it, comes from `header`, `elements`, `traffic` and `setup`;
 // the octets of a line come from `script`.
-// Proved: safe and ending; octets exact. The table has under 65,536 characters. Assumes nothing of its own.
+// Proved: safe and ending; lines and octets exact. The table has under 65,536 characters. Assumes nothing of its own.
 #![tactic(auto)]
 
 mod found;
 
-ghost use Rattle.std.specs.Prelude.{◌≤◌, IfOk, length};
+ghost use Rattle.std.specs.Prelude.{◌≡◌, ◌≤◌, IfOk, length, eqb};
+ghost use Rattle.decoder.specs.Lines.{is_skipped};
 
 use header::Header;
 use std::io::{Read, Result};
@@ -24,12 +25,12 @@ fn print_ignored(rt: &impl Print, m: &[u8]) -> Result<()> {
 
 fn print_header(rt: &impl Print, h: Header) -> Result<()> {
     print!(rt;
-        "flag {} ref {} type {:02x} length {}",
+        "flag {} ref {} type {:02x} length ",
         u8::from(h.flag),
         h.reference,
-        h.kind,
-        if h.whole { "right" } else { "wrong" }
-    )
+        h.kind
+    )?;
+    print!(rt; "{}", if h.whole { "right" } else { "wrong" })
 }
 
 fn print_elements(rt: &impl Print, m: &[u8]) -> Result<()> {
@@ -55,21 +56,35 @@ fn print_message(rt: &impl Print, m: &[u8]) -> Result<()> {
     println!(rt)
 }
 
-// A message in hex, `-` for no octets; nothing for an empty line and one that begins with #.
-fn print_line(rt: &impl Print, line: &[u8]) -> Result<()> {
-    if matches!(line.first(), None | Some(b'#')) {
+// What ends a line.
+fn is_break(octet: u8) -> bool
+    ensures { result ≡ eqb octet 10 }
+{
+    octet == b'\n'
+}
+
+// An empty line, and one that begins with #.
+fn is_skipped(line: &[u8]) -> bool
+    ensures { result ≡ is_skipped line.now }
+{
+    matches!(line.first(), None | Some(b'#'))
+}
+
+// A message in hex, `-` for no octets. The room is lent, since to make one for each line would take longer than the line.
+fn print_line(rt: &impl Print, line: &[u8], room: &mut [u8; 32768]) -> Result<()> {
+    if is_skipped(line) {
         return Ok(());
     }
-    let mut room = [0u8; 32768];
-    match script::read_octets(line, &mut room) {
+    match script::read_octets(line, room) {
         Some(n) => print_message(rt, &room[..n]),
         None => println!(rt; "bad line"),
     }
 }
 
 fn print_lines(rt: &impl Print, table: &[u8]) -> Result<()> {
-    for line in table.split(|c| *c == b'\n') {
-        print_line(rt, line)?;
+    let mut room = [0u8; 32768];
+    for line in table.split(|octet| is_break(*octet)) {
+        print_line(rt, line, &mut room)?;
     }
     Ok(())
 }

@@ -10,7 +10,7 @@
 use Rattle.std.specs.Prelude.{ℕ, ◌≡◌, cond, List}
 use Rattle.octets.specs.Octets.{part}
 use Rattle.contents.specs.Contents.{cause_number, call_state_value, connection_in as pair_in, restart_class}
-use Rattle.channels.specs.declared.Pair.{Pair}
+use Rattle.identifier.specs.declared.Pair.{Pair}
 use Rattle.mandatory.specs.Mandatory.{multipoint}
 use Rattle.elements.specs.declared.Part.{Part}
 use Rattle.elements.specs.declared.Read.{Read}

@@ -11,7 +11,7 @@ ghost use Rattle.std.specs.Fn.{FnOnceReturnsAt};
 ghost use Rattle.elements.specs.Elements.{is_absent, is_unreadable, action_fits, look_for, Within};
 ghost use Rattle.elements.specs.Values.{IsReadBy, cause_in, call_state_in, connection_in, configured, bearer_in, restart_in};
 
-use channels::Pair;
+use identifier::Pair;
 use items::Item;
 
 // What is found of an element that is looked for.

@@ -31,7 +31,10 @@ fn move_up(input: &mut [u8; 131072], from: usize, end: usize) -> usize
     ensures { result ≤ 65537 }
 {
     let held = (end - from).min(65537);
-    input.copy_within(from..from + held, 0);
+    // What stands at the front already stays: a long line may come octet by octet.
+    if from > 0 {
+        input.copy_within(from..from + held, 0);
+    }
     held
 }
 

@@ -14,12 +14,12 @@ ghost use Rattle.std.specs.Prelude.{◌≤◌, length, IfSome};
 ghost use Rattle.script.specs.Lines.{Asks, Within};
 
 use lines::Chunk;
-use outcome::Answer;
+use outcome::{Answer, Answered, Started};
 use page::Page;
 use refusal::Refusal;
 use restarts::Target;
+use saved::Saved;
 use script::{Clock, Line, List, Request};
-use slots::Flags;
 use std::env::Env;
 use std::io::Read;
 use table::Table;
@@ -55,25 +55,6 @@ fn reply_in(room: &[u8], n: usize) -> Option<&[u8]>
         Some(&room[..n])
     } else {
         None
-    }
-}
-
-// The number of an answer's refusal, 0 for what is accepted.
-fn number_of<T>(answer: &Result<T, Refusal>) -> u8 {
-    match answer {
-        Ok(_) => 0,
-        Err(refusal) => refusal.number(),
-    }
-}
-
-// What the answer line of a refused event tells beside the number: nothing, with the table that stays.
-fn nothing(table: Table) -> Answer {
-    Answer {
-        table,
-        length: 0,
-        notice: None,
-        flags: Flags::none(),
-        more: false,
     }
 }
 
@@ -137,14 +118,12 @@ impl Desk {
     )
         requires { (length room.old ≤ 4096) × Asks request (length octets.now) }
     {
-        let answer = ask(table, clock, request, octets, room);
-        let refusal = number_of(&answer);
-        let answer = answer.unwrap_or(nothing(table));
+        let answer = Answered::of(table, ask(table, clock, request, octets, room));
         match reply_in(room, answer.length) {
             Some(reply) => {
                 let before = table.slots;
                 self.page
-                    .put_answer(rt, request, octets, refusal, reply, before, answer);
+                    .put_answer(rt, request, octets, reply, before, answer);
             }
             None => self.page.put_touched(rt),
         }
@@ -168,9 +147,9 @@ impl Desk {
     fn store(&mut self, rt: &impl Print, table: Table, room: &mut [u8])
         requires { length room.old ≤ 4096 }
     {
-        let saved = saved::save(table, room);
-        match reply_in(room, saved.unwrap_or(0)) {
-            Some(form) => self.page.put_saved(rt, number_of(&saved), form),
+        let saved = Saved::of(saved::save(table, room));
+        match reply_in(room, saved.length) {
+            Some(form) => self.page.put_saved(rt, saved.refusal, form),
             None => self.page.put_touched(rt),
         }
     }
@@ -187,17 +166,12 @@ impl Desk {
     }
 
     // What a start or a reload answers, with a note for each case; a refused one leaves no table.
-    fn open(
-        &mut self,
-        rt: &impl Print,
-        started: Result<Table, Refusal>,
-        accepted: &[u8],
-        refused: &[u8],
-    )
+    fn open(&mut self, rt: &impl Print, started: Started, accepted: &[u8], refused: &[u8])
         requires { (length accepted.now ≤ 64) × (length refused.now ≤ 64) }
     {
-        self.page.put_opened(rt, started.is_ok(), accepted, refused);
-        self.table = started.ok();
+        let is_accepted = started.refusal == 0;
+        self.page.put_opened(rt, is_accepted, accepted, refused);
+        self.table = is_accepted.then_some(started.table);
     }
 
     // A line that begins with `start`.
@@ -205,7 +179,7 @@ impl Desk {
         match script::read_lists(line) {
             Some(lists) => self.open(
                 rt,
-                start(lists.ranges, lists.pairs),
+                Started::of(start(lists.ranges, lists.pairs)),
                 b"# start accepted: every slot is empty\n",
                 b"# start refused: the lists break a rule\n",
             ),
@@ -217,7 +191,7 @@ impl Desk {
     fn restore(&mut self, rt: &impl Print, form: &[u8]) {
         self.open(
             rt,
-            reload::reload(form),
+            Started::of(reload::reload(form)),
             b"# table reloaded\n",
             b"# reload refused: the octets are no saved form\n",
         );

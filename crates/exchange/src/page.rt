@@ -7,7 +7,7 @@
 ghost use Rattle.std.specs.Prelude.{◌≡◌, ◌≤◌, length};
 ghost use Rattle.script.specs.Lines.{Asks};
 
-use outcome::Answer;
+use outcome::Answered;
 use script::Request;
 use shown::Extent;
 use slots::{Flags, Slots};
@@ -108,10 +108,9 @@ impl Page {
         rt: &impl Print,
         request: Request,
         came: &[u8],
-        refusal: u8,
         reply: &[u8],
         before: Slots,
-        answer: Answer,
+        answer: Answered,
     )
         requires { (length reply.now ≤ 4096) × Asks request (length came.now) }
     {
@@ -119,9 +118,9 @@ impl Page {
         let mut next = answers::put_answer(
             &mut self.octets,
             at,
-            refusal,
+            answer.refusal,
             reply,
-            answer.notice.map_or(0, |notice| notice.number()),
+            answer.notice,
             answer.flags,
             answer.more,
         );
@@ -131,7 +130,7 @@ impl Page {
                 next,
                 request,
                 came,
-                refusal,
+                answer.refusal,
                 reply,
                 before,
                 answer.table.slots,

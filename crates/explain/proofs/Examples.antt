@@ -4,7 +4,7 @@
 --   refused_line     a clock that went back
 --   names-read       names from each table; refusal 10 is a line end's number too
 -- Assumes nothing.
-use Rattle.channels.specs.Channels.{pair}
+use Rattle.identifier.specs.Pair.{pair}
 use Prim.Native.Nat.{ℕ}
 use mathlib.Core.Path.{◌≡◌, refl}
 use mathlib.Core.Bool.{false}

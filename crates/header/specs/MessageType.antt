@@ -1,6 +1,6 @@
 -- The message types that have a rule.
 --   number_of      the number of a type
---   Decodes        a number's type, or that it has none
+--   Decodes        a number's type, or that it has none, with the number
 -- Assumes nothing.
 use Rattle.std.specs.Prelude.{ℕ, ◌≡◌, ◌≢◌, Result, MatchResult}
 use Rattle.header.specs.declared.message_type.MessageType.{MessageType}
@@ -34,4 +34,4 @@ pub record IsUnknown (n : ℕ) : Type 0 where
   pub status : n ≢ 0x7D
 
 abbrev pub Decodes : ℕ → Result MessageType UnknownType → Type 0
-Decodes n r = MatchResult r (λ t. n ≡ number_of t) (λ e. IsUnknown n)
+Decodes n r = MatchResult r (λ t. n ≡ number_of t) (λ e. IsUnknown n × (e.0 ≡ n))

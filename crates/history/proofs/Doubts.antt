@@ -6,7 +6,7 @@
 use Rattle.verdicts.specs.declared.Notice.{Notice}
 use Rattle.verdicts.specs.Verdict.{notice_number}
 use Rattle.verdicts.specs.declared.Notice.TheVariants as notice
-use Rattle.channels.specs.declared.Pair.{Pair}
+use Rattle.identifier.specs.declared.Pair.{Pair}
 use Rattle.std.specs.Prelude.{Some, None, Option}
 use Prim.Native.Nat.{ℕ}
 use mathlib.Core.Path.{◌≡◌, refl, sym, ap, ◌∙◌}
@@ -18,7 +18,8 @@ use lib.Dec.{eqb}
 use lib.ListN.{replicate}
 use lib.Seq.{get_or-set_other}
 use borrow.Author.Tests.{eqb-true, eqb-false, eq-eqb}
-use Rattle.channels.specs.Channels.{pair, permitted}
+use Rattle.identifier.specs.Pair.{pair}
+use Rattle.channels.specs.Channels.{permitted}
 use Rattle.channels.specs.declared.Named.{Named}
 use Rattle.channels.specs.declared.Named.TheVariants as named
 use Rattle.channels.proofs.Cases.{by_test, clash}

@@ -14,7 +14,8 @@ use mathlib.Core.List.{List, [], ◌∷◌}
 use native.Mathlib.Omega.{arith}
 use lib.Dec.{eqb, leb}
 use borrow.Author.Tests.{eqb-true, eq-eqb, leb-true, le-leb, le-ltb, not-true}
-use Rattle.channels.specs.Channels.{pair, permitted, permanent, in_range, in_ranges, spans_vpci, spanned_vpci, known_vpci}
+use Rattle.identifier.specs.Pair.{pair}
+use Rattle.channels.specs.Channels.{permitted, permanent, in_range, in_ranges, spans_vpci, spanned_vpci, known_vpci}
 use Rattle.channels.specs.declared.Named.{Named}
 use Rattle.channels.specs.declared.Named.TheVariants as named
 use Rattle.channels.specs.declared.Range.{Range}
@@ -25,7 +26,7 @@ use Rattle.pairs.proofs.Laws.{unless_in}
 use Rattle.header.specs.declared.Header.{Header}
 use Rattle.header.specs.Header.{head_of}
 use Rattle.elements.specs.declared.Read.{Read}
-use Rattle.channels.specs.declared.Pair.{Pair}
+use Rattle.identifier.specs.declared.Pair.{Pair}
 use Rattle.elements.specs.declared.Read.TheVariants as elem
 use Rattle.elements.specs.Values.{connection_in, restart_in, pair_read}
 use Rattle.replies.specs.declared.Reply.TheVariants as reply

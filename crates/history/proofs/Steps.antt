@@ -9,7 +9,8 @@ use mathlib.Core.Logic.{◌⊎◌, inl, inr, ◌≢◌}
 use mathlib.Core.Bool.{Bool, true, false, cond, not, ◌&&◌, ◌||◌, or-true, and-true, and-false}
 use lib.Dec.{eqb}
 use borrow.Author.Tests.{eqb-true, eqb-false, eq-eqb}
-use Rattle.channels.specs.Channels.{pair, permitted}
+use Rattle.identifier.specs.Pair.{pair}
+use Rattle.channels.specs.Channels.{permitted}
 use Rattle.std.specs.List.{list_any}
 use Rattle.channels.proofs.Cases.{by_test, clash, both}
 use Rattle.channels.proofs.Some.{some_at}

@@ -19,7 +19,8 @@
 -- Assumes nothing.
 use Rattle.header.specs.declared.Header.{Header}
 use Rattle.std.specs.Prelude.{ℕ, ◌≡◌, ◌⊎◌, Bool, true, false, not, cond, ◌&&◌, ◌||◌, List, [], ◌∷◌, eqb, Option, Some, None}
-use Rattle.channels.specs.Channels.{pair, permitted}
+use Rattle.identifier.specs.Pair.{pair}
+use Rattle.channels.specs.Channels.{permitted}
 use Rattle.channels.specs.declared.Named.{Named}
 use Rattle.pairs.specs.Pairs as by_us
 use Rattle.pairs.specs.Pairs.{is_full, in_pairs}
@@ -34,7 +35,7 @@ use Rattle.slots.specs.Slots.{is_set}
 use Rattle.slots.specs.Timers.{next_due}
 use Rattle.header.specs.Header.{head_of}
 use Rattle.elements.specs.declared.Read.{Read}
-use Rattle.channels.specs.declared.Pair.{Pair}
+use Rattle.identifier.specs.declared.Pair.{Pair}
 use Rattle.elements.specs.declared.Read.TheVariants as elem
 use Rattle.elements.specs.Values.{connection_in, restart_in, pair_read}
 use Rattle.service.specs.declared.GlobalState.{GlobalState}

@@ -12,9 +12,10 @@ use mathlib.Core.List.{List}
 use lib.Dec.{eqb}
 use Rattle.std.specs.Prelude.{Result, Ok, Err, ⊤}
 use Rattle.table.specs.declared.Table.{Table}
-use Rattle.channels.specs.declared.Pair.{Pair}
+use Rattle.identifier.specs.declared.Pair.{Pair}
 use Rattle.channels.specs.declared.Pool.{Pool}
-use Rattle.channels.specs.Channels.{pair, lowest}
+use Rattle.identifier.specs.Pair.{pair}
+use Rattle.channels.specs.Channels.{lowest}
 use Rattle.pairs.specs.declared.Pairs.{Pairs}
 use Rattle.calls.specs.declared.State.{State}
 use Rattle.calls.specs.declared.State.TheVariants.{N3}

@@ -10,7 +10,7 @@ use mathlib.Core.Bool.{true, false}
 use mathlib.Core.List.{List}
 use lib.Dec.{eqb}
 use borrow.Author.Tests.{eqb-true}
-use Rattle.channels.specs.declared.Pair.{Pair}
+use Rattle.identifier.specs.declared.Pair.{Pair}
 use Rattle.channels.proofs.Cases.{by_test, clash}
 use Rattle.calls.specs.declared.State.{State}
 use Rattle.calls.specs.declared.State.TheVariants.{N3, N6, N9, N10, N12}

@@ -16,7 +16,7 @@ use lib.Dec.{eqb, ltb}
 use lib.ListN.{set}
 use native.Mathlib.Nat.{le_refl}
 use borrow.Author.Tests.{ne_eqb, le-ltb}
-use Rattle.channels.specs.declared.Pair.{Pair}
+use Rattle.identifier.specs.declared.Pair.{Pair}
 use Rattle.std.specs.Prelude.{Result, Ok, Err, ⊤}
 use Rattle.channels.proofs.Cases.{by_test, clash}
 use Rattle.calls.specs.declared.State.{State}

@@ -7,7 +7,7 @@
 
 ghost use Rattle.std.specs.Prelude.{◌≤◌, ◌<◌};
 
-use outcome::Answer;
+use outcome::{Answer, Answered, Started};
 use refusal::Refusal;
 use std::io;
 use std::io::Read;
@@ -92,14 +92,11 @@ fn added(sum: u64, length: usize) -> u64 {
 }
 
 impl Life {
-    // A refused event changes nothing, and sends nothing.
     fn answered(self, answer: Result<Answer, Refusal>) -> Life {
-        match answer {
-            Ok(answer) => Life {
-                table: answer.table,
-                sum: added(self.sum, answer.length),
-            },
-            Err(_) => self,
+        let answer = Answered::of(self.table, answer);
+        Life {
+            table: answer.table,
+            sum: added(self.sum, answer.length),
         }
     }
 
@@ -175,17 +172,15 @@ impl Life {
 }
 
 // The sum of the replies' lengths, by the four octets of the input.
-fn sum_of(input: &[u8; 4]) -> Result<u64, Refusal> {
+fn sum_of(input: &[u8; 4]) -> u64 {
     let mut room = [0u8; 1024];
     let live = u64::from(input[1]);
     let rounds = u64::from(input[2]) * 100;
-    let table = started(lists_of(input[3]))?;
+    let table = Started::of(started(lists_of(input[3]))).table;
     let life = Life { table, sum: 0 };
-    Ok(
-        life.filled(live, &mut room)
-            .lived(input[0], live, rounds, &mut room)
-            .sum,
-    )
+    life.filled(live, &mut room)
+        .lived(input[0], live, rounds, &mut room)
+        .sum
 }
 
 // Reads until the room is full or the input ends. Stays a `while`: it counts the octets that came, and walks no index.
@@ -204,8 +199,6 @@ fn read_full(input: &mut impl Read, room: &mut [u8]) -> io::Result<()> {
 fn main(rt: HostRuntime) -> io::Result<()> {
     let mut input = [0u8; 4];
     read_full(&mut rt.stdin(), &mut input)?;
-    match sum_of(&input) {
-        Ok(sum) => println!(rt; "{sum}"),
-        Err(refusal) => println!(rt; "{refusal}"),
-    }
+    let sum = sum_of(&input);
+    println!(rt; "{sum}")
 }

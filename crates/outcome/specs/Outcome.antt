@@ -1,15 +1,13 @@
 -- The outcome of an event: the answer with the table afterwards, and the reply's octets.
---   Answered       an answer as document 01 has it: with the refusal number, 0 for what is accepted
 --   Outcome        what the host gets, and what stands at the front of its room
---   answer_of       the answer that an event's result says, of a table
+--   refused_with    "A refusal answers reply length 0, notice 0 and no flags; table, last reading and reply room stay unchanged."
+--   answer_of       the answer in numbers that an event's result says, of a table
 --   effect_octets   what an effect sends
 --   sending        the outcome of an effect: the table afterwards, the answer, and what is sent
---   refused_with    "A refusal answers reply length 0, notice 0 and no flags; table, last reading and reply room stay unchanged."
 --   accepted_as     "An accepted event stores its reading"
 --   unless_refused  a refusal number decides
---   Started        what a start or a reload answers, as document 01 has it
 --   fresh_table     the table that a start makes on a pool
---   started_of      the answer that the result of a start or of a reload says
+--   started_of      the answer in numbers that the result of a start or of a reload says
 -- Assumes nothing.
 use Rattle.std.specs.Prelude.{ℕ, Bool, false, cond, List, [], eqb, length, replicate, Result, Ok, Err}
 use Rattle.refusal.specs.declared.Refusal.{Refusal}
@@ -20,7 +18,6 @@ use Rattle.pairs.specs.Pairs.{no_pairs}
 use Rattle.service.specs.declared.GlobalState.TheVariants.{Null}
 use Rattle.service.specs.Service.{none_out}
 use Rattle.calls.specs.Calls.{no_slot}
-use Rattle.slots.specs.declared.Flags.{Flags}
 use Rattle.slots.specs.Slots.{slot_count}
 use Rattle.replies.specs.Reply.{sent_octets}
 use Rattle.verdicts.specs.Verdict.{notice_number}
@@ -29,30 +26,24 @@ use Rattle.effects.specs.Change.{no_flags, flags_of, notice_of}
 use Rattle.table.specs.declared.Table.{Table}
 use Rattle.table.specs.Effects.{table_after}
 use Rattle.outcome.specs.declared.Answer.{Answer}
+use Rattle.outcome.specs.declared.Answered.{Answered}
+use Rattle.outcome.specs.declared.Started.{Started}
 
 -- "An answer is the refusal number, the reply's octets, notice, flags and, for a tick, whether another is due"; with the table afterwards
-pub record Answered : Type 0 where
-  pub table : Table
-  pub refusal : ℕ
-  pub length : ℕ
-  pub notice : ℕ
-  pub flags : Flags
-  pub more : Bool
-
 pub record Outcome : Type 0 where
   pub answer : Answered
   pub reply : List ℕ
-
--- a refusal leaves the table as it was given, and answers nothing but its number
-abbrev pub answer_of : Table → Result Answer Refusal → Answered
-answer_of t (Ok a) = record { table = a.table; refusal = 0; length = a.length; notice = notice_number a.notice; flags = a.flags; more = a.more }
-answer_of t (Err r) = record { table = t; refusal = number_of r; length = 0; notice = 0; flags = no_flags; more = false }
 
 abbrev pub refused_with : Table → ℕ → Outcome
 refused_with t n = record {
   answer = record { table = t; refusal = n; length = 0; notice = 0; flags = no_flags; more = false };
   reply = [];
 }
+
+-- a refusal leaves the table as it was given, and answers nothing but its number
+abbrev pub answer_of : Table → Result Answer Refusal → Answered
+answer_of t (Ok a) = record { table = a.table; refusal = 0; length = a.length; notice = notice_number a.notice; flags = a.flags; more = a.more }
+answer_of t (Err r) = (refused_with t (number_of r)).answer
 
 -- what an effect sends; an offer's body goes with SETUP
 abbrev pub effect_octets : Effect → List ℕ → List ℕ
@@ -77,10 +68,6 @@ accepted_as t reading x = sending t reading x false []
 
 abbrev pub unless_refused : Table → ℕ → Outcome → Outcome
 unless_refused t n o = cond (eqb n 0) o (refused_with t n)
-
-pub record Started : Type 0 where
-  pub refusal : ℕ
-  pub table : Table
 
 -- "The table has the 32 slots of calls, .. and the last accepted reading, 0 at start."
 abbrev pub fresh_table : Pool → Table

@@ -1,6 +1,9 @@
 // The answer of an event.
 //   Answer       what an accepted event answers, with the table afterwards; a refused one answers its `Refusal`
 //   accept       the answer of an accepted event: its change is performed, its reading stored, its reply written
+//   Answered     what an event answers in numbers, accepted or refused
+//   Started      the same of a start or a reload
+//   fresh        the table that a start makes
 // Only `accept` has a `requires`: a room of 1,024 octets, and a body of at most 512. It is no entry point; no event of control
 // has a `requires`. Assumes nothing.
 #![tactic(auto)]
@@ -8,10 +11,14 @@
 ghost use Rattle.std.specs.Prelude.{◌≡◌, ◌≤◌, length};
 ghost use Rattle.octets.specs.Octets.{front};
 ghost use Rattle.replies.specs.Reply.{reply_room, body_room};
-ghost use Rattle.outcome.specs.Outcome.{answer_of, sending};
+ghost use Rattle.outcome.specs.Outcome.{answer_of, sending, fresh_table, started_of};
 
+use channels::Pool;
 use effects::Effect;
-use slots::Flags;
+use pairs::Pairs;
+use refusal::Refusal;
+use service::{Global, GlobalState, OutOfService};
+use slots::{Flags, Slots};
 use table::Table;
 use verdicts::Notice;
 
@@ -23,6 +30,24 @@ pub struct Answer {
     pub notice: Option<Notice>,
     pub flags: Flags,
     pub more: bool,
+}
+
+// What an event answers in numbers, as document 01 has it: beside a refusal's number the table as it was given, and nothing told.
+#[derive(Clone, Copy)]
+pub struct Answered {
+    pub table: Table,
+    pub refusal: u8,
+    pub length: usize,
+    pub notice: u8,
+    pub flags: Flags,
+    pub more: bool,
+}
+
+// What a start or a reload answers in numbers: beside a refusal's number a table with no call and no permitted pair.
+#[derive(Clone, Copy)]
+pub struct Started {
+    pub refusal: u8,
+    pub table: Table,
 }
 
 // An accepted event. Its reply is written last.
@@ -49,5 +74,61 @@ pub fn accept(
         notice,
         flags,
         more,
+    }
+}
+
+impl Answered {
+    // What an event on a table answers in numbers.
+    pub fn of(table: Table, answer: Result<Answer, Refusal>) -> Answered
+        ensures { result ≡ answer_of table answer }
+    {
+        match answer {
+            Ok(answer) => Answered {
+                table: answer.table,
+                refusal: 0,
+                length: answer.length,
+                notice: answer.notice.map_or(0, |notice| notice.number()),
+                flags: answer.flags,
+                more: answer.more,
+            },
+            Err(reason) => Answered {
+                table,
+                refusal: reason.number(),
+                length: 0,
+                notice: 0,
+                flags: Flags::none(),
+                more: false,
+            },
+        }
+    }
+}
+
+// No call, no reading, no pair in doubt or out of service, and no RESTART of ours.
+pub fn fresh(pool: Pool) -> Table
+    ensures { result ≡ fresh_table pool }
+{
+    let state = GlobalState::Null;
+    Table {
+        slots: Slots::fresh(),
+        last: 0,
+        doubts: Pairs::none(),
+        global: Global { state },
+        out: OutOfService::none(),
+        pool,
+    }
+}
+
+impl Started {
+    // What a start or a reload answers in numbers.
+    pub fn of(answer: Result<Table, Refusal>) -> Started
+        ensures { result ≡ started_of answer }
+    {
+        match answer {
+            Ok(table) => Started { refusal: 0, table },
+            Err(refusal) => Started {
+                refusal: refusal.number(),
+                table: fresh(Pool::empty()),
+            },
+        }
     }
 }

@@ -5,8 +5,9 @@ use Prim.Native.Nat.{ℕ}
 use mathlib.Core.Path.{◌≡◌, refl}
 use mathlib.Core.Bool.{true, false}
 use mathlib.Core.List.{List, [], ◌∷◌}
-use Rattle.channels.specs.Channels.{pair, permanent, lowest}
-use Rattle.channels.specs.declared.Pair.{Pair}
+use Rattle.identifier.specs.Pair.{pair}
+use Rattle.channels.specs.Channels.{permanent, lowest}
+use Rattle.identifier.specs.declared.Pair.{Pair}
 use Rattle.provisioning.specs.Provisioning.{provision}
 
 -- "a start with VPCI 0, VCI 20 to 21 (32 to 33)"

@@ -14,8 +14,9 @@ use native.Mathlib.Omega.{arith}
 use lib.Dec.{eqb, ltb}
 use lib.ListN.{length}
 use borrow.Author.Tests.{ne_eqb, eqb-true, eqb-false, ltb-true}
-use Rattle.channels.specs.Channels.{pair, in_range, in_ranges, scan, lowest}
-use Rattle.channels.specs.declared.Pair.{Pair}
+use Rattle.identifier.specs.Pair.{pair}
+use Rattle.channels.specs.Channels.{in_range, in_ranges, scan, lowest}
+use Rattle.identifier.specs.declared.Pair.{Pair}
 use Rattle.channels.specs.declared.Range.{Range}
 use Rattle.channels.proofs.Cases.{by_test, clash, both}
 use Rattle.channels.proofs.Parts.{pair_parts}

@@ -10,8 +10,9 @@
 --   provision_of                   the same, said by a pool or none
 -- Assumes nothing.
 use Rattle.std.specs.Prelude.{ℕ, zero, suc, ◌+◌, ◌-◌, ◌*◌, ◌/◌, ◌%◌, ◌^◌, ◌<◌, ◌≡◌, Bool, true, false, cond, ◌&&◌, ◌||◌, List, [], ◌∷◌, eqb, leb, ltb, length, get_or, Option, Some, None}
-use Rattle.channels.specs.Channels.{pair, no_range, empty_pool}
-use Rattle.channels.specs.declared.Pair.{Pair}
+use Rattle.identifier.specs.Pair.{pair}
+use Rattle.channels.specs.Channels.{no_range, empty_pool}
+use Rattle.identifier.specs.declared.Pair.{Pair}
 use Rattle.channels.specs.declared.Range.{Range}
 use Rattle.channels.specs.declared.Pool.{Pool}
 

@@ -5,7 +5,7 @@
 -- Assumes nothing.
 use Rattle.std.specs.Prelude.{ℕ, ◌<◌, ◌≡◌, List, get_or}
 use Rattle.table.specs.declared.Table.{Table}
-use Rattle.outcome.specs.Outcome.{Started}
+use Rattle.outcome.specs.declared.Started.{Started}
 use Rattle.control.specs.Events.{start_of}
 use Rattle.control.specs.Happens.{Event, after}
 use Rattle.reload.specs.Reload.{reload_of}

@@ -2,7 +2,7 @@
 --   setup-read          P1's SETUP reads as a message value with four elements, and that value is written as P1's octets
 --   replies-written     the replies of P1, P3 and P4
 -- Assumes nothing.
-use Rattle.channels.specs.Channels.{pair}
+use Rattle.identifier.specs.Pair.{pair}
 use Prim.Native.Nat.{ℕ}
 use mathlib.Core.Path.{◌≡◌, refl}
 use mathlib.Core.Bool.{true, false}

@@ -8,7 +8,7 @@ use Rattle.octets.specs.Octets.{part}
 use Rattle.contents.specs.Contents.{connection_in as pair_in}
 use Rattle.elements.specs.declared.Part.{Part}
 use Rattle.elements.specs.declared.Read.{Read}
-use Rattle.channels.specs.declared.Pair.{Pair}
+use Rattle.identifier.specs.declared.Pair.{Pair}
 use Rattle.elements.specs.declared.Read.TheVariants as elem
 use Rattle.elements.specs.Elements.{look_for}
 use Rattle.elements.specs.Values.{read, connection_in}

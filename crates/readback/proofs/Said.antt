@@ -8,7 +8,7 @@
 --   proceeding_pair, restart_pair, restart_class_lem, restart_all_class, own_restart_pair, own_restart_class, own_restart_all_class
 --   setup_pair                  the pair in SETUP
 -- Assumes nothing.
-use Rattle.channels.specs.Channels.{pair}
+use Rattle.identifier.specs.Pair.{pair}
 use Prim.Native.Nat.{ℕ, ◌+◌, ◌%◌, ◌<◌}
 use mathlib.Core.Path.{◌≡◌, refl, sym, ap, ◌∙◌}
 use mathlib.Core.Bool.{Bool, true, false, cond, ◌&&◌, true≢false}

@@ -7,7 +7,7 @@ use Rattle.contents.specs.Contents.{cause_number, call_state_value, connection_i
 use Rattle.contents.specs.Fits.{fits}
 use Rattle.elements.specs.declared.Read.{Read}
 use Rattle.elements.specs.declared.Read.TheVariants as elem
-use Rattle.channels.specs.declared.Pair.{Pair}
+use Rattle.identifier.specs.declared.Pair.{Pair}
 use Rattle.elements.specs.Elements.{action_fits}
 use Rattle.replies.specs.Message.{Element}
 

@@ -12,7 +12,7 @@
 --   slots_in                   the slots
 --   table_with, table_in        the table, of so many slots: with a pool, and with its own
 -- Assumes nothing.
-use Rattle.channels.specs.Channels.{pair}
+use Rattle.identifier.specs.Pair.{pair}
 use Rattle.std.specs.Prelude.{ℕ, zero, suc, ◌+◌, ◌*◌, ◌/◌, ◌%◌, Bool, cond, ◌&&◌, List, [], ◌∷◌, eqb, leb, ltb, length, get_or, drop}
 use Rattle.octets.specs.Octets.{number}
 use Rattle.channels.specs.declared.Named.{Named}

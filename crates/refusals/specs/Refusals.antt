@@ -10,7 +10,7 @@
 -- 0 says that nothing is refused. Assumes nothing.
 use Rattle.std.specs.Prelude.{ℕ, Bool, true, false, cond, List, [], ◌∷◌, eqb, ltb, length, Option, Some, None}
 use Rattle.traffic.specs.Traffic.{member}
-use Rattle.channels.specs.declared.Pair.{Pair}
+use Rattle.identifier.specs.declared.Pair.{Pair}
 use Rattle.channels.specs.declared.Pool.{Pool}
 use Rattle.channels.specs.Channels.{permitted}
 use Rattle.calls.specs.declared.State.{State}

@@ -10,7 +10,7 @@ use lib.Dec.{leb}
 use Rattle.octets.specs.Octets.{equal}
 use Rattle.provisioning.specs.Provisioning.{Provision, provision}
 use Rattle.table.specs.declared.Table.{Table}
-use Rattle.outcome.specs.Outcome.{Started}
+use Rattle.outcome.specs.declared.Started.{Started}
 use Rattle.calls.specs.Timers.{largest_reading}
 use Rattle.saved.specs.Form.{form_of}
 use Rattle.reading.specs.Reading.{range_numbers, pair_numbers, table_with}

@@ -9,7 +9,8 @@ use Rattle.provisioning.specs.Provisioning.{provision}
 use Rattle.channels.specs.Channels.{empty_pool}
 use Rattle.calls.specs.Timers.{largest_reading}
 use Rattle.slots.specs.Slots.{slot_count}
-use Rattle.outcome.specs.Outcome.{Started, fresh_table}
+use Rattle.outcome.specs.Outcome.{fresh_table}
+use Rattle.outcome.specs.declared.Started.{Started}
 use Rattle.rules.specs.Rules.{table_kept}
 use Rattle.saved.specs.Form.{form_of}
 use Rattle.reading.specs.Reading.{range_numbers, pair_numbers, table_in}

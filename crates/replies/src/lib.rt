@@ -13,8 +13,8 @@ ghost use Rattle.header.specs.MessageType.{number_of};
 ghost use Rattle.replies.specs.Message.{header, element_octets, octets};
 ghost use Rattle.replies.specs.Reply.{in_field, optional, identifiers, diagnostic_octets, cause, short, call_state, connection, restart, headed, reply_octets, setup_octets, reply_room, body_room, sent_octets};
 
-use channels::Pair;
 use header::MessageType;
+use identifier::Pair;
 
 pub const REPLY_ROOM: usize = 1024;
 

@@ -7,8 +7,8 @@
 --   expire_second, expire_effect   T316 runs out: a second time, and at all
 --   put_back                   the host puts all marked pairs back
 -- Assumes nothing.
-use Rattle.channels.specs.declared.Pair.{Pair}
-use Rattle.channels.specs.Channels.{pair}
+use Rattle.identifier.specs.declared.Pair.{Pair}
+use Rattle.identifier.specs.Pair.{pair}
 use Rattle.std.specs.Prelude.{ℕ, ◌+◌, ◌<◌, Bool, true, false, cond, ◌&&◌, eqb}
 use Rattle.channels.specs.declared.Named.{Named}
 use Rattle.channels.specs.declared.Named.TheVariants.{All, One}

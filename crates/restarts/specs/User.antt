@@ -5,12 +5,13 @@
 --   restart_effect     the whole row
 -- Assumes nothing.
 use Rattle.std.specs.Prelude.{ℕ, true, cond, ◌||◌, eqb, ltb}
-use Rattle.channels.specs.Channels.{pair, permanent, known_vpci}
+use Rattle.identifier.specs.Pair.{pair}
+use Rattle.channels.specs.Channels.{permanent, known_vpci}
 use Rattle.channels.specs.declared.Named.{Named}
 use Rattle.channels.specs.declared.Named.TheVariants as named
 use Rattle.channels.specs.declared.Pool.{Pool}
 use Rattle.elements.specs.declared.Read.{Read}
-use Rattle.channels.specs.declared.Pair.{Pair}
+use Rattle.identifier.specs.declared.Pair.{Pair}
 use Rattle.elements.specs.declared.Read.TheVariants as elem
 use Rattle.replies.specs.declared.Diagnostic.{Diagnostic}
 use Rattle.replies.specs.declared.Diagnostic.TheVariants as diagnostic

@@ -34,7 +34,7 @@ use Rattle.calls.specs.Timers.{largest_reading}
 use Rattle.service.specs.declared.GlobalState.{GlobalState}
 use Rattle.slots.specs.Slots.{slot_count}
 use Rattle.table.specs.declared.Table.{Table}
-use Rattle.outcome.specs.Outcome.{Started}
+use Rattle.outcome.specs.declared.Started.{Started}
 use Rattle.refusals.specs.Refusals.{host_causes}
 use Rattle.control.specs.Events.{start_of}
 use Rattle.control.specs.Happens.{Event, happens, after}

@@ -8,7 +8,7 @@ use Rattle.std.specs.Prelude.{ℕ, ◌≤◌, ◌<◌, ◌≡◌, ◌⊎◌, tru
 use Rattle.replies.specs.Reply.{reply_room}
 use Rattle.provisioning.specs.Provisioning.{provision}
 use Rattle.table.specs.declared.Table.{Table}
-use Rattle.outcome.specs.Outcome.{Started}
+use Rattle.outcome.specs.declared.Started.{Started}
 use Rattle.control.specs.Events.{start_of}
 use Rattle.control.specs.Happens.{Event, happens}
 use Rattle.saved.specs.Form.{form_of}

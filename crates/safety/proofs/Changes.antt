@@ -7,7 +7,7 @@
 --   does_change         what every event leaves
 --   accepted_reading    an accepted event's reading is neither too large nor too early
 -- Assumes nothing.
-use Rattle.channels.specs.Channels.{pair}
+use Rattle.identifier.specs.Pair.{pair}
 use Rattle.std.specs.Prelude.{Some, None}
 use Prim.Native.Nat.{ℕ, ◌+◌, ◌≤◌}
 use mathlib.Core.Path.{◌≡◌, refl, sym, ap, ◌∙◌}

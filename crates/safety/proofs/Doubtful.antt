@@ -20,7 +20,8 @@ use borrow.Author.Tests.{eqb-true, not-true}
 use Rattle.channels.specs.declared.Named.{Named}
 use Rattle.channels.specs.declared.Named.TheVariants as named
 use Rattle.channels.specs.declared.Pool.{Pool}
-use Rattle.channels.specs.Channels.{pair, permitted}
+use Rattle.identifier.specs.Pair.{pair}
+use Rattle.channels.specs.Channels.{permitted}
 use Rattle.channels.proofs.Cases.{by_test, clash, both}
 use Rattle.pairs.specs.Pairs.{in_pairs, names, unless_named, Tidy}
 use Rattle.pairs.proofs.Laws.{with_in, with_tidy, unless_in, unless_tidy}

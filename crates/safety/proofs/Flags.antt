@@ -6,7 +6,7 @@
 --   gone_exact                             calls on the pairs of a RESTART are gone
 --   flags_exact
 -- Assumes nothing.
-use Rattle.channels.specs.Channels.{pair}
+use Rattle.identifier.specs.Pair.{pair}
 use Prim.Native.Nat.{ℕ, zero, suc, ◌≤◌, ◌<◌}
 use mathlib.Core.Path.{◌≡◌, refl, sym, ap, ◌∙◌}
 use mathlib.Core.Logic.{◌≢◌}

@@ -14,7 +14,8 @@ use borrow.Author.Tests.{eqb-true, eq-eqb, not-true}
 use Rattle.channels.specs.declared.Named.{Named}
 use Rattle.channels.specs.declared.Named.TheVariants.{All, One}
 use Rattle.channels.specs.declared.Pool.{Pool}
-use Rattle.channels.specs.Channels.{pair, permitted}
+use Rattle.identifier.specs.Pair.{pair}
+use Rattle.channels.specs.Channels.{permitted}
 use Rattle.channels.proofs.Cases.{by_test, clash, both}
 use Rattle.pairs.specs.Pairs.{is_full, in_pairs, names, Tidy}
 use Rattle.pairs.proofs.Laws.{none_in, none_tidy, with_in, with_tidy, or_swap}

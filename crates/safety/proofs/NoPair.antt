@@ -22,7 +22,7 @@ use Rattle.first.proofs.First.{placed}
 use Rattle.header.specs.declared.Header.{Header}
 use Rattle.header.specs.Header.{header_in, head_of}
 use Rattle.elements.specs.declared.Read.{Read}
-use Rattle.channels.specs.declared.Pair.{Pair}
+use Rattle.identifier.specs.declared.Pair.{Pair}
 use Rattle.replies.specs.declared.Diagnostic.{Diagnostic}
 use Rattle.replies.specs.declared.Reply.{Reply}
 use Rattle.replies.specs.declared.Reply.TheVariants as reply

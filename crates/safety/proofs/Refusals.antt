@@ -13,7 +13,7 @@ use lib.Dec.{eqb, ltb}
 use lib.ListN.{length, get_or-eq_default}
 use borrow.Author.Tests.{eqb-true, eqb-false, ltb-true, ne_eqb, lt-ltb}
 use Rattle.traffic.specs.Traffic.{member}
-use Rattle.channels.specs.declared.Pair.{Pair}
+use Rattle.identifier.specs.declared.Pair.{Pair}
 use Rattle.channels.specs.declared.Pool.{Pool}
 use Rattle.channels.specs.Channels.{permitted}
 use Rattle.channels.proofs.Cases.{by_test, clash}

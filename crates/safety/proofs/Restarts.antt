@@ -17,7 +17,8 @@ use lib.ListN.{get_or}
 use borrow.Author.Tests.{eqb-true, eq-eqb, leb-true, leb-false, le-leb, ltb-true, ltb-false, lt-ltb, le-ltb, lt-leb, not-true}
 use Rattle.channels.specs.declared.Named.{Named}
 use Rattle.channels.specs.declared.Named.TheVariants.{All, One}
-use Rattle.channels.specs.Channels.{pair, permanent, known_vpci}
+use Rattle.identifier.specs.Pair.{pair}
+use Rattle.channels.specs.Channels.{permanent, known_vpci}
 use Rattle.channels.proofs.Cases.{by_test, clash, both}
 use Rattle.channels.proofs.Some.{some_at, some_none}
 use Rattle.pairs.proofs.Laws.{unless_in}
@@ -34,7 +35,7 @@ use Rattle.slots.specs.Timers.{some_due, earlier, considered, soonest_from, soon
 use Rattle.header.specs.declared.Header.{Header}
 use Rattle.header.specs.Header.{header_in, head_of}
 use Rattle.elements.specs.declared.Read.{Read}
-use Rattle.channels.specs.declared.Pair.{Pair}
+use Rattle.identifier.specs.declared.Pair.{Pair}
 use Rattle.elements.specs.declared.Read.TheVariants as elem
 use Rattle.elements.specs.Values.{connection_in, restart_in, pair_read}
 use Rattle.replies.specs.declared.Diagnostic.{Diagnostic}

@@ -2,7 +2,7 @@
 --   forgetful, forgetful_ruled_out     RESTART ACKNOWLEDGE takes the marks away
 --   hasty, hasty_ruled_out             T316 comes before a slot of equal deadline
 -- Assumes nothing.
-use Rattle.channels.specs.Channels.{pair}
+use Rattle.identifier.specs.Pair.{pair}
 use Rattle.std.specs.Prelude.{Option, Some, None}
 use Prim.Native.Nat.{ℕ}
 use mathlib.Core.Path.{◌≡◌, refl, ap}

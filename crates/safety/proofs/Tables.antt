@@ -19,7 +19,8 @@ use lib.ListN.{length}
 use borrow.Author.Tests.{eqb-true, eq-eqb}
 use Rattle.std.specs.List.{list_any}
 use Rattle.pairs.specs.Pairs.{in_pairs}
-use Rattle.channels.specs.Channels.{pair, permitted}
+use Rattle.identifier.specs.Pair.{pair}
+use Rattle.channels.specs.Channels.{permitted}
 use Rattle.channels.proofs.Cases.{by_test, clash, both}
 use Rattle.channels.proofs.Some.{some_at, some_none}
 use Rattle.service.specs.Service.{under_restart, is_out}

@@ -10,7 +10,7 @@
 --   Elsewhere                        events that have no part in it
 --   OwnRestarts                      the whole, of a controller on a table; `happens` is the one that there is
 -- Assumes nothing.
-use Rattle.channels.specs.Channels.{pair}
+use Rattle.identifier.specs.Pair.{pair}
 use Rattle.std.specs.Prelude.{ℕ, ◌+◌, ◌≤◌, ◌<◌, ◌≡◌, ◌⊎◌, Bool, true, false, cond, not, ◌&&◌, ◌||◌, List, [], ◌∷◌, map, get_or, replicate, Some}
 use Rattle.std.specs.List.{list_any}
 use Rattle.channels.specs.declared.Named.{Named}

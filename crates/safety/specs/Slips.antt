@@ -6,7 +6,8 @@
 --   PermanentStays                                                    "A permanent pair cleared by "all"."
 -- Assumes nothing.
 use Rattle.std.specs.Prelude.{ℕ, ◌≡◌, ◌⊎◌, ◌≢◌, true, false, List, [], ◌∷◌, get_or, Some}
-use Rattle.channels.specs.Channels.{pair, permanent}
+use Rattle.identifier.specs.Pair.{pair}
+use Rattle.channels.specs.Channels.{permanent}
 use Rattle.calls.specs.declared.State.{State}
 use Rattle.calls.specs.declared.State.TheVariants.{N3, N6}
 use Rattle.calls.specs.declared.Call.{Call}

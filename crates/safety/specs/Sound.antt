@@ -10,7 +10,8 @@ use Rattle.std.specs.Prelude.{ℕ, ◌+◌, ◌≤◌, ◌<◌, ◌≡◌, ◌�
 use Rattle.traffic.specs.Traffic.{member}
 use Rattle.channels.specs.declared.Named.TheVariants.{All, One}
 use Rattle.channels.specs.declared.Pool.{Pool}
-use Rattle.channels.specs.Channels.{pair, permitted}
+use Rattle.identifier.specs.Pair.{pair}
+use Rattle.channels.specs.Channels.{permitted}
 use Rattle.pairs.specs.Pairs.{in_pairs, Tidy}
 use Rattle.calls.specs.declared.Clearing.{Clearing}
 use Rattle.calls.specs.declared.State.{State}

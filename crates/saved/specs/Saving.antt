@@ -1,6 +1,5 @@
 -- Saving a table to a lent room (document 02, R-1).
---   Saved                   what saving answers: the refusal number, and the length of the form
---   saved_as                the answer that the result of a save says
+--   saved_as                the answer in numbers that the result of a save says
 --   saved_of, saved_in      what is answered, and what is written
 -- Assumes nothing.
 use Rattle.std.specs.Prelude.{ℕ, cond, List, [], ltb, length, Result, Ok, Err}
@@ -8,10 +7,7 @@ use Rattle.refusal.specs.declared.Refusal.{Refusal}
 use Rattle.refusal.specs.Refusal.{number_of}
 use Rattle.table.specs.declared.Table.{Table}
 use Rattle.saved.specs.Form.{form_of}
-
-pub record Saved : Type 0 where
-  pub refusal : ℕ
-  pub length : ℕ
+use Rattle.saved.specs.declared.Saved.{Saved}
 
 abbrev pub saved_as : Result ℕ Refusal → Saved
 saved_as (Ok n) = record { refusal = 0; length = n }

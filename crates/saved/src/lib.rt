@@ -2,6 +2,7 @@
 //   LONGEST      how many octets the longest form has
 //   put_form     the form at a place of a room
 //   save         the form at the front of a room
+//   Saved        what a save answers in numbers
 // `put_form` asks for room; nothing else public has a `requires`. Assumes nothing.
 #![tactic(auto)]
 
@@ -151,6 +152,27 @@ pub fn put_form(room: &mut [u8], at: usize, table: Table) -> usize
     let sixth = put_out_field(room, fifth, table.out);
     let seventh = fields::put_request_field(room, sixth, table.global.state);
     put_calls(room, seventh, table.slots)
+}
+
+// What a save answers in numbers: that of its refusal, 0 for none, and the length of the form.
+#[derive(Clone, Copy)]
+pub struct Saved {
+    pub refusal: u8,
+    pub length: usize,
+}
+
+impl Saved {
+    pub fn of(answer: Result<usize, Refusal>) -> Saved
+        ensures { result ≡ saved_as answer }
+    {
+        match answer {
+            Ok(length) => Saved { refusal: 0, length },
+            Err(reason) => Saved {
+                refusal: reason.number(),
+                length: 0,
+            },
+        }
+    }
 }
 
 // Writes the form at the front of the room, and answers its length; a room too small for it is refused and stays as it was.

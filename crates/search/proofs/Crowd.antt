@@ -13,8 +13,9 @@ use lib.Dec.{eqb}
 use lib.ListN.{length}
 use borrow.Author.Tests.{eqb-true, ne_eqb}
 use Rattle.std.specs.List.{list_any}
-use Rattle.channels.specs.Channels.{permanent_count, is_pair, among}
-use Rattle.channels.specs.declared.Pair.{Pair}
+use Rattle.identifier.specs.Pair.{is_pair}
+use Rattle.channels.specs.Channels.{permanent_count, among}
+use Rattle.identifier.specs.declared.Pair.{Pair}
 use Rattle.channels.proofs.Cases.{by_test}
 use Rattle.pairs.specs.Pairs.{room, is_number, listed, in_pairs}
 use Rattle.pairs.specs.declared.Pairs.{Pairs}

@@ -12,8 +12,9 @@ use mathlib.Core.Path.{◌≡◌, refl}
 use mathlib.Core.Bool.{Bool, true, false, ◌||◌, or-true, or-false}
 use mathlib.Core.List.{List}
 use Rattle.std.specs.List.{list_any}
-use Rattle.channels.specs.Channels.{pair, lowest, in_ranges, permanent, permitted, is_pair}
-use Rattle.channels.specs.declared.Pair.{Pair}
+use Rattle.identifier.specs.Pair.{pair, is_pair}
+use Rattle.channels.specs.Channels.{lowest, in_ranges, permanent, permitted}
+use Rattle.identifier.specs.declared.Pair.{Pair}
 use Rattle.channels.specs.declared.Named.TheVariants as named
 use Rattle.channels.specs.declared.Pool.{Pool}
 use Rattle.channels.proofs.Cases.{by_test, clash}

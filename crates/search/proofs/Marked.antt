@@ -10,7 +10,7 @@ use mathlib.Core.List.{List}
 use native.Mathlib.Omega.{arith}
 use lib.Dec.{eqb}
 use lib.ListN.{length, get_or}
-use Rattle.channels.specs.declared.Pair.{Pair}
+use Rattle.identifier.specs.declared.Pair.{Pair}
 use Rattle.channels.specs.declared.Range.{Range}
 use Rattle.search.specs.Marks.{near, range_at, Read}
 use Rattle.search.specs.declared.Marks.{Marks}

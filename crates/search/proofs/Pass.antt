@@ -15,8 +15,8 @@ use native.Mathlib.Numerals.{add-one}
 use lib.ListN.{length, take, get_or}
 use lib.Seq.{take-suc, take_all, length-take-le}
 use Rattle.std.specs.List.{list_any}
-use Rattle.channels.specs.Channels.{is_pair}
-use Rattle.channels.specs.declared.Pair.{Pair}
+use Rattle.identifier.specs.Pair.{is_pair}
+use Rattle.identifier.specs.declared.Pair.{Pair}
 use Rattle.channels.specs.declared.Range.{Range}
 use Rattle.channels.proofs.Cases.{by_test}
 use Rattle.calls.specs.Calls.{empty_hold, is_live, pair_held, holds_pair, pair_of, entry_of}

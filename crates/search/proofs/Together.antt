@@ -11,8 +11,9 @@ use mathlib.Core.List.{List}
 use native.Mathlib.Omega.{arith}
 use lib.ListN.{length}
 use Rattle.std.specs.List.{list_any}
-use Rattle.channels.specs.Channels.{is_pair, among}
-use Rattle.channels.specs.declared.Pair.{Pair}
+use Rattle.identifier.specs.Pair.{is_pair}
+use Rattle.channels.specs.Channels.{among}
+use Rattle.identifier.specs.declared.Pair.{Pair}
 use Rattle.channels.specs.declared.Range.{Range}
 use Rattle.pairs.specs.Pairs.{room, listed, is_number}
 use Rattle.pairs.specs.declared.Pairs.{Pairs}

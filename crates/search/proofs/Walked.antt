@@ -1,27 +1,30 @@
 -- The walk over ranges and VCIs, over the marks alone.
---   Told                        the marks from range k on say what a test says of the ranges' pairs
---   walked                      then the lowest pair without a mark is the lowest that the test does not name
---   told_read                   what all reads have set tells so
+--   walked                      where the marks from range k on say what a test says of the ranges' pairs, the lowest pair without a mark is the lowest
+--                               that the test does not name
+--   row_passed, row_met         a range whose marks are all set is passed; at its first mark that is not set the walk ends
+--   rows_passed                 behind the last range nothing is found
 --   unused_answer, all_answer   what `find_free` gives where no range has a VCI; where all pairs are taken at once
 --   answer                      and elsewhere
 -- Over lists of any length. Assumes nothing.
 use Rattle.std.specs.Prelude.{Option, Some, None}
 use Rattle.std.specs.List.{position_or_len}
 use Rattle.std.proofs.lemmas.Bool.{not-true, not-false}
-use Rattle.std.proofs.lemmas.List.{get_or-drop, get_or-take, length-drop, length-replicate}
-use Rattle.std.proofs.lemmas.List.Sums.{passes_at_first, fails_before_first}
+use Rattle.std.proofs.lemmas.List.{get_or-drop, get_or-take, length-drop, length-replicate, drop_all}
+use Rattle.std.proofs.lemmas.List.Sums.{passes_at_first, fails_before_first, position_or_len_is}
 use Prim.Native.Nat.{ℕ, zero, suc, ◌+◌, ◌-◌, ◌*◌, ◌≤◌, ◌<◌}
 use mathlib.Core.Path.{◌≡◌, refl, sym, ◌∙◌}
 use mathlib.Core.Logic.{◌≢◌}
-use mathlib.Core.Bool.{Bool, true, false, not, or-true}
+use mathlib.Core.Bool.{Bool, true, false, cond, not, or-true}
 use mathlib.Core.List.{List, [], ◌∷◌}
 use native.Mathlib.Omega.{arith}
+use native.Mathlib.Numerals.{add-one}
 use lib.Dec.{eqb, ltb}
 use lib.ListN.{length, take, drop, get_or, replicate, get_or-replicate}
-use lib.Seq.{length-take-le}
-use borrow.Author.Tests.{eqb-true, eqb-false, eq-eqb, ne_eqb, ltb-true, ltb-false}
-use Rattle.channels.specs.Channels.{pair, range_count, permanent_count, scan, lowest}
-use Rattle.channels.specs.declared.Pair.{Pair}
+use lib.Seq.{length-take-le, drop-cons}
+use borrow.Author.Tests.{eqb-true, eqb-false, eq-eqb, ne_eqb, ltb-true, ltb-false, lt-ltb, le-ltb}
+use Rattle.identifier.specs.Pair.{pair}
+use Rattle.channels.specs.Channels.{range_count, permanent_count, scan, lowest}
+use Rattle.identifier.specs.declared.Pair.{Pair}
 use Rattle.channels.specs.declared.Range.{Range}
 use Rattle.channels.specs.declared.Pool.{Pool}
 use Rattle.channels.proofs.Cases.{by_test}
@@ -101,6 +104,37 @@ module _ (t : ℕ → ℕ → Bool) (few : Sparse t) where
       rw rest
       (row r (drop (k * near) on) (lowest t rs) (omega arith)
       (λ o h. get_or-drop (k * near) on o false ∙ (let here : k + 0 ≡ k = omega arith in rw here at (told 0 o (omega arith) h))))
+
+-- the marks of a range stand from m on
+module _ (r : Range) (on : List Bool) (m o : ℕ) where
+  first_unset : m + near ≤ length on → o ≤ width r → ((u : ℕ) → u < o → get_or on (m + u) false ≡ true) → (o < width r → get_or on (m + o) false ≡ false)
+      → free_in r (drop m on) ≡ cond (ltb o (width r)) (Some o) None
+  first_unset long most set unset =
+      let narrow = (width_most r).0 in
+      let behind = length-drop m on in
+      let xs = take (width r) (drop m on) in
+      let count = length-take-le (width r) (drop m on) (omega arith) in
+      let place : (u : ℕ) → u < width r → get_or xs u false ≡ get_or on (m + u) false = λ u h. get_or-take (width r) (drop m on) u false h ∙ get_or-drop m on u false in
+      let first : position_or_len not xs ≡ o =
+      position_or_len_is not xs o false (omega arith) (λ u h. rw (place u (omega arith), set u h)) (λ h. rw (place o (omega arith), unset (omega arith))) in
+      rw (first, count)
+
+-- a walk that has come to range k
+module _ (on : List Bool) (k : ℕ) (rs : List Range) where
+  pub row_passed : length on ≡ all_marks → k < range_count → k < length rs → ((u : ℕ) → u < width (range_at rs k) → get_or on (k * near + u) false ≡ true)
+      → lowest_in on k (drop k rs) ≡ lowest_in on (k + 1) (drop (k + 1) rs)
+  row_passed long low below set =
+      let none = first_unset (range_at rs k) on (k * near) (width (range_at rs k)) (omega arith) (omega arith) set (λ h. absurd (omega arith)) in
+      rw (drop-cons rs k (record { vpci = 0; first = 0; last = 0 }) below, none, le-ltb (width (range_at rs k)) (width (range_at rs k)) (omega arith), add-one k)
+
+  pub row_met : length on ≡ all_marks → k < range_count → k < length rs → (o : ℕ) → o < width (range_at rs k) → ((u : ℕ) → u < o → get_or on (k * near + u) false ≡ true)
+      → get_or on (k * near + o) false ≡ false → lowest_in on k (drop k rs) ≡ Some (pair (range_at rs k).vpci ((range_at rs k).first + o))
+  row_met long low below o within set unset =
+      let some = first_unset (range_at rs k) on (k * near) o (omega arith) (omega arith) set (λ h. unset) in
+      rw (drop-cons rs k (record { vpci = 0; first = 0; last = 0 }) below, some, lt-ltb o (width (range_at rs k)) within)
+
+  pub rows_passed : length rs ≤ k → lowest_in on k (drop k rs) ≡ None
+  rows_passed h = rw (drop_all k rs h)
 
 module _ (ss : List Slot) (ds : Pairs) (out : OutOfService) (g : GlobalState) (pool : Pool) where
   abbrev T : ℕ → ℕ → Bool

@@ -1,4 +1,4 @@
--- The marks that a search sets, one for each of the first VCIs of each range: what the functions beneath `find_free` say of them.
+-- The marks that a search sets, one for each of the first VCIs of each range: what the functions beneath `find_free` say of them, and its walk.
 --   near, all_marks        how many VCIs of a range have a mark; how many marks there are
 --   used                  how many ranges there are up to the last that has a VCI
 --   range_at               a range of a list, by its number
@@ -10,8 +10,9 @@
 -- Lists of ranges are of any length. Assumes nothing.
 use Rattle.std.specs.Prelude.{ℕ, ◌+◌, ◌-◌, ◌*◌, ◌<◌, ◌≡◌, Bool, false, cond, not, ◌&&◌, ◌||◌, List, [], ◌∷◌, eqb, leb, ltb, length, take, drop, get_or, Option, Some, None}
 use Rattle.std.specs.List.{position}
-use Rattle.channels.specs.Channels.{pair, range_count, permanent_count}
-use Rattle.channels.specs.declared.Pair.{Pair}
+use Rattle.identifier.specs.Pair.{pair}
+use Rattle.channels.specs.Channels.{range_count, permanent_count}
+use Rattle.identifier.specs.declared.Pair.{Pair}
 use Rattle.channels.specs.declared.Range.{Range}
 use Rattle.pairs.specs.Pairs.{room}
 use Rattle.slots.specs.Slots.{slot_count}

@@ -3,23 +3,23 @@
 //   Ranges, ranges_used    the ranges that a search looks at: those up to the last that has a VCI
 //   pair_of                the pair of a number
 //   offset_in              which mark of a range a pair has
-//   free_in                the first mark of a range that is not set
+//   width                  how many VCIs of a range have a mark, and are looked at
 //   Marks                  a mark for each of the NEAR first VCIs of each range, if its pair is taken; how many pairs were read
 //   Marks::read            a pair is read: it is counted, and its marks are set
 //   Marks::read_place, read_slots, read_permanents, read_listed, read_request     each pair that is there is read
-//   Marks::lowest_free     the lowest pair whose mark is not set
 // `find_free` has no `requires`; those of `Marks` ask for a count that is not near its end.
 // Assumes nothing.
 #![tactic(auto)]
 
-ghost use Rattle.std.specs.Prelude.{◌≡◌, ◌&&◌, ◌+◌, ◌*◌, ◌/◌, ◌%◌, ◌≤◌, ◌<◌, eqb, length, take, IfSome};
+ghost use Rattle.std.specs.Prelude.{◌≡◌, ◌&&◌, ◌+◌, ◌*◌, ◌/◌, ◌%◌, ◌≤◌, ◌<◌, eqb, length, take};
 ghost use Rattle.std.specs.List.{list_any};
-ghost use Rattle.channels.specs.Channels.{pair, range_count, is_pair, among};
+ghost use Rattle.identifier.specs.Pair.{pair, is_pair};
+ghost use Rattle.channels.specs.Channels.{range_count, among};
 ghost use Rattle.pairs.specs.Pairs.{room, is_number};
 ghost use Rattle.calls.specs.Calls.{is_live, holds_pair};
 ghost use Rattle.service.specs.Service.{one_pair};
 ghost use Rattle.search.specs.Search.{taken_singly, how_many, has_pair, there, pairs_there, searched};
-ghost use Rattle.search.specs.Marks.{near, used, looked, offset_in, Read, free_in, lowest_in};
+ghost use Rattle.search.specs.Marks.{near, used, looked, offset_in, Read, width};
 
 use calls::Slot;
 use channels::{Named, PERMANENTS, Pair, Pool, RANGES, Range};
@@ -85,14 +85,14 @@ fn offset_in(range: Range, pair: Pair) -> Option<usize>
     (offset < NEAR).then_some(offset)
 }
 
-// The number of the first mark of a range that is not set.
-fn free_in(range: Range, on: &[bool]) -> Option<usize>
-    requires { near ≤ length on.now }
-    ensures value { result ≡ free_in range on.now }
-    ensures within { IfSome result (λ o. range.first + o < 65536) }
+// How many VCIs of a range have a mark: no more are looked at.
+fn width(range: Range) -> usize
+    ensures value { result ≡ width range }
+    ensures within { range.first + result ≤ 65536 }
 {
-    let width = (range.last as usize + 1).saturating_sub(range.first as usize);
-    on[..width.min(NEAR)].iter().position(|taken| !*taken)
+    (range.last as usize + 1)
+        .saturating_sub(range.first as usize)
+        .min(NEAR)
 }
 
 impl Marks {
@@ -161,26 +161,10 @@ impl Marks {
             self.read(ranges, pair);
         }
     }
-
-    // The lowest pair of the ranges that has no mark.
-    fn lowest_free(&self, ranges: &Ranges) -> Option<Pair>
-        requires { ranges.now.used ≤ range_count }
-        ensures { result ≡ lowest_in self.now.on 0 (looked ranges.now) }
-    {
-        for (k, range) in ranges.all[..ranges.used].iter().enumerate() {
-            if let Some(offset) = free_in(*range, &self.on[k * NEAR..]) {
-                return Some(Pair {
-                    vpci: range.vpci,
-                    vci: range.first + offset as u16,
-                });
-            }
-        }
-        None
-    }
 }
 
-// Each pair is read once; then comes the walk over ranges and VCIs, over the marks alone, up to the first free pair. Where
-// no range has a VCI, or all pairs are taken at once, no pair is read.
+// Each pair is read once; then comes the walk over ranges and VCIs, over the marks alone, left by its label at the first
+// free pair. Where no range has a VCI, or all pairs are taken at once, no pair is read.
 pub fn find_free(
     pool: Pool,
     slots: Slots,
@@ -209,8 +193,20 @@ pub fn find_free(
     marks.read_request(&ranges, state);
     marks.read_listed(&ranges, doubts.listed());
     marks.read_listed(&ranges, out.pairs.listed());
+    let mut found = None;
+    'search: for (k, range) in ranges.all[..ranges.used].iter().enumerate() {
+        for offset in 0..width(*range) {
+            if !marks.on[k * NEAR + offset] {
+                found = Some(Pair {
+                    vpci: range.vpci,
+                    vci: range.first + offset as u16,
+                });
+                break 'search;
+            }
+        }
+    }
     Finding {
-        found: marks.lowest_free(&ranges),
+        found,
         reads: marks.reads,
     }
 }

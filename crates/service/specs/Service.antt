@@ -7,7 +7,7 @@
 --   is_all_taken, one_pair           if no pair at all is free; the one pair that our RESTART names
 -- Assumes nothing.
 use Rattle.std.specs.Prelude.{ℕ, Bool, true, false, cond, not, ◌||◌, Option, Some, None}
-use Rattle.channels.specs.declared.Pair.{Pair}
+use Rattle.identifier.specs.declared.Pair.{Pair}
 use Rattle.channels.specs.declared.Named.{Named}
 use Rattle.channels.specs.declared.Named.TheVariants.{All, One}
 use Rattle.pairs.specs.Pairs.{no_pairs, is_full, in_pairs, with_pair, names}

@@ -15,10 +15,11 @@
 --   fired_slot, fired_request            both together
 -- Assumes nothing.
 use Rattle.std.specs.Prelude.{ℕ, Bool, true, false, not, cond, ◌&&◌, ◌||◌, List, map, eqb, ltb, set, Option, Some, None}
-use Rattle.channels.specs.declared.Pair.{Pair}
+use Rattle.identifier.specs.declared.Pair.{Pair}
 use Rattle.std.specs.Prelude.{ℕ, Bool, true, false, not, cond, ◌&&◌, ◌||◌, List, map, eqb, ltb, set, Result, Ok, Err, ⊤}
 use Rattle.channels.specs.declared.Named.{Named}
-use Rattle.channels.specs.Channels.{pair, lowest}
+use Rattle.identifier.specs.Pair.{pair}
+use Rattle.channels.specs.Channels.{lowest}
 use Rattle.pairs.specs.Pairs.{is_full, with_pair, unless_named}
 use Rattle.calls.specs.declared.State.TheVariants.{N3}
 use Rattle.calls.specs.declared.Call.{Call}

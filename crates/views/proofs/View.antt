@@ -17,10 +17,11 @@ use lib.Dec.{eqb, ltb}
 use borrow.Author.Tests.{eqb-true, eqb-false, not-true}
 use Rattle.std.specs.Prelude.{Result, Ok, Err, ⊤}
 use Rattle.traffic.specs.Traffic.{member}
-use Rattle.channels.specs.declared.Pair.{Pair}
+use Rattle.identifier.specs.declared.Pair.{Pair}
 use Rattle.channels.specs.declared.Named.{Named}
 use Rattle.channels.specs.declared.Named.TheVariants as named
-use Rattle.channels.specs.Channels.{pair, permanent, known_vpci}
+use Rattle.identifier.specs.Pair.{pair}
+use Rattle.channels.specs.Channels.{permanent, known_vpci}
 use Rattle.channels.proofs.Cases.{by_test, clash, both}
 use Rattle.calls.specs.declared.State.{State}
 use Rattle.calls.specs.declared.State.TheVariants.{N3, N6, N9, N10, N12}

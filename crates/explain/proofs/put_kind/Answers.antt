@@ -10,4 +10,4 @@ unfolding name_in kind_names
 no_name n u = search (rules, tests)
 
 pub returns-in-Err-clause-wrote : goal.returns-in-Err-clause-wrote
-returns-in-Err-clause-wrote c = rw (no_name c.args.kind c.in-Err.ensures) (chain c.put-next.ensures.stored c.put_octet.ensures.wrote)
+returns-in-Err-clause-wrote c = rw (no_name c.args.kind c.in-Err.ensures.0) (chain c.put-next.ensures.stored c.put_octet.ensures.wrote)

@@ -1,16 +1,20 @@
 -- `find_free`: what was read is what there is, and the walk finds the lowest pair that is free.
-use Rattle.std.proofs.Common.{take, ◌≡◌, length, refl, sym, ◌∙◌, arith, rules}
+use Rattle.std.proofs.Common.{take, ◌≡◌, ℕ, ◌<◌, length, refl, sym, ◌∙◌, arith, rules}
+use Rattle.std.specs.Prelude.{Option}
+use Rattle.identifier.specs.declared.Pair.{Pair}
 use Rattle.channels.specs.Channels.{permanent_count}
 use Rattle.pairs.specs.Pairs.{room}
 use Rattle.calls.specs.Calls.{is_live}
 use Rattle.service.specs.Service.{one_pair}
 use Rattle.slots.specs.Slots.{slot_count}
-use Rattle.search.specs.Search.{has_pair}
+use Rattle.search.specs.Search.{has_pair, searched}
+use Rattle.search.specs.Marks.{range_at, width, lowest_in}
+use Rattle.search.specs.declared.Finding.{Finding}
 use Rattle.search.proofs.Marked.{read_then}
 use Rattle.search.proofs.Pass.{many_few}
 use Rattle.search.proofs.Together.{together, there_most, listed_few}
-use Rattle.search.proofs.Walked.{unused_answer, all_answer, answer}
-use Rattle.search.proofs.find_free.Goals.{then-ranges-eq0-via-then-ranges-eq0, then-ranges-eq0-via-else-ranges-eq0+then-is_all_taken}
+use Rattle.search.proofs.Walked.{row_passed, row_met, rows_passed, unused_answer, all_answer, answer}
+use Rattle.search.proofs.find_free.Goals.{At-search, then-ranges-eq0-via-then-ranges-eq0, then-ranges-eq0-via-else-ranges-eq0+then-is_all_taken}
 use Rattle.search.proofs.find_free.Goals as goal
 
 pub returns-then-ranges-eq0 : goal.returns-then-ranges-eq0
@@ -62,8 +66,10 @@ read_listed-requires-2 c =
     let n3 = c.read_listed.ensures.count in
     (rw c.listed-2.ensures (listed_few a.out.pairs (search rules)), omega arith)
 
-pub returns : goal.returns
-returns c =
+-- where the walk finds the lowest pair without a mark, the answer is the one that is promised
+found : (c : At-search) {x : Option Pair} → x ≡ lowest_in c.read_listed-2.new.self.on 0 (take c.ranges_used.result c.args.pool.ranges)
+    → ◌≡◌ {A = Finding} (record { found = x; reads = c.read_listed-2.new.self.reads }) (searched c.args.slots.all c.args.doubts c.args.out c.args.state c.args.pool)
+found c is =
     let a = c.args in
     let rs = take c.ranges_used.result a.pool.ranges in
     let ds : length a.doubts.numbers ≡ room = search rules in
@@ -76,4 +82,22 @@ returns c =
     (λ z. c.if-ranges-eq0.false (c.ranges_used.ensures.value ∙ z))
     {new = c.read_listed-2.new.self} refl
     (rw c.ranges_used.ensures.value at (together a.slots.all a.doubts a.out a.state a.pool.permanents rs ds os all))
-    (rw c.ranges_used.ensures.value at c.lowest_free.ensures)
+    (rw c.ranges_used.ensures.value at is)
+
+pub search-preserved : goal.search-preserved
+search-preserved c =
+    let rs = take c.ranges_used.result c.args.pool.ranges in
+    let set = λ (u : ℕ) (h : u < width (range_at rs c.search.k)). c.loop-offset.invariant.1 u (omega (arith, c.width-offset-end.ensures.value)) in
+    (c.loop-offset.invariant.0, c.search.invariant.1 ∙ row_passed c.read_listed-2.new.self.on c.search.k rs (search rules) (search rules) (omega arith) set)
+
+pub returns-after-search : goal.returns-after-search
+returns-after-search c =
+    let rs = take c.ranges_used.result c.args.pool.ranges in
+    let none = rows_passed c.read_listed-2.new.self.on c.search.k rs (omega arith) in
+    found (goal.at.returns-after-search c).At-search (c.search.invariant.0 ∙ sym (c.search.invariant.1 ∙ none))
+
+pub returns-then-not-marks-k : goal.returns-then-not-marks-k
+returns-then-not-marks-k c =
+    let rs = take c.ranges_used.result c.args.pool.ranges in
+    let some = row_met c.read_listed-2.new.self.on c.search.k rs (search rules) (search rules) (omega arith) c.loop-offset.offset (omega (arith, c.width-offset-end.ensures.value)) c.loop-offset.invariant.1 c.if-not-marks-k.true in
+    found (goal.at.returns-then-not-marks-k c).At-search (sym (c.search.invariant.1 ∙ some))

@@ -1,6 +1,7 @@
 use Rattle.std.proofs.Common.{◌≡◌, length, arith, rules}
 use Rattle.std.specs.Prelude.{None}
-use Rattle.channels.specs.Channels.{permanent_count, is_pair}
+use Rattle.identifier.specs.Pair.{is_pair}
+use Rattle.channels.specs.Channels.{permanent_count}
 use Rattle.search.specs.Search.{has_pair}
 use Rattle.search.specs.Marks.{looked}
 use Rattle.search.proofs.Pass.{passed_room, passed_more, place_read}

@@ -1,5 +1,5 @@
 -- `Marks::read_permanents`: the pairs of the places passed are read.
-use Rattle.channels.specs.Channels.{is_pair}
+use Rattle.identifier.specs.Pair.{is_pair}
 use Rattle.search.specs.Search.{has_pair}
 use Rattle.search.specs.Marks.{looked}
 use Rattle.search.proofs.Pass.{Passed}
